@@ -1,0 +1,4 @@
+pub mod Loops
+pub mod SetLaws
+pub mod BatchLaws
+pub mod KeyLaws

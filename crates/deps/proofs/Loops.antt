@@ -1,0 +1,98 @@
+-- What a loop has shown so far, law by law: a test of all below a bound, an array filled from the front, a fold over a batch's requests.
+use mathlib.Core.Path.{_≡_, refl, ap, sym, _∙_}
+use mathlib.Core.List.{List, [], _∷_, _++_, append-assoc, append-nil, foldl, foldl-append, flatMap}
+use mathlib.Core.Bool.{Bool, true, false, and-false}
+use mathlib.Core.Logic.{⊎-elim}
+use Prim.Native.Nat.{ℕ, suc, zero, _+_, _<_, _≤_}
+use native.Mathlib.Nat.{eq-or-lt-of-le, le-of-suc-le-suc}
+use native.Mathlib.Numerals.{add-one}
+use native.Mathlib.Omega.{arith}
+use lib.ListN.{length, getD, take, drop, set}
+use lib.Seq.{take-suc}
+use Rattle.deps.specs.Below.{allBelow}
+
+-- ---- a test of all below a bound
+
+pub all-none : (p : ℕ → Bool) → allBelow 0 p ≡ true
+unfolding allBelow
+all-none p = refl
+
+pub all-more : (p : ℕ → Bool) (i : ℕ) → allBelow i p ≡ true → p i ≡ true → allBelow (i + 1) p ≡ true
+unfolding allBelow
+all-more p i e h = rw (add-one, e, h)
+
+-- one that fails
+pub all-not : (p : ℕ → Bool) (n i : ℕ) → i < n → p i ≡ false → allBelow n p ≡ false
+unfolding allBelow
+all-not p zero i l h = absurd (omega arith)
+all-not p (suc n) i l h =
+    ⊎-elim
+    (λ (e : i ≡ n). rw (← e, h, and-false))
+    (λ (k : i < n). rw (all-not p n i k h))
+    (eq-or-lt-of-le (le-of-suc-le-suc l))
+
+-- ---- an array filled from the front
+
+module _ {A : Type 0} where
+  -- the first i elements of z, then d's own
+  abbrev pub mix : ℕ → List A → List A → List A
+  mix i z d = take i z ++ drop i d
+
+  pub mix-more : (i : ℕ) (z d : List A) (a : A) → i < length d → length z ≡ length d → set (mix i z d) i (getD z i a) ≡ mix (i + 1) z d
+  mix-more i z d a l e = rw add-one (step i z d l e)
+    where
+      step : (i : ℕ) (z d : List A) → i < length d → length z ≡ length d → set (mix i z d) i (getD z i a) ≡ mix (suc i) z d
+      step i [] [] l e = absurd (omega arith)
+      step i [] (y ∷ d) l e = absurd (omega arith)
+      step i (x ∷ z) [] l e = absurd (omega arith)
+      step zero (x ∷ z) (y ∷ d) l e = refl
+      step (suc i) (x ∷ z) (y ∷ d) l e = ap (λ (r : List A). x ∷ r) (step i z d (omega arith) (omega arith))
+
+  -- the element that the next turn looks at is still d's
+  pub mix-next : (i : ℕ) (z d : List A) (a : A) → length z ≡ length d → getD (mix i z d) i a ≡ getD d i a
+  mix-next zero z d a e = refl
+  mix-next (suc i) [] [] a e = refl
+  mix-next (suc i) [] (y ∷ d) a e = absurd (omega arith)
+  mix-next (suc i) (x ∷ z) [] a e = absurd (omega arith)
+  mix-next (suc i) (x ∷ z) (y ∷ d) a e = mix-next i z d a (omega arith)
+
+  pub mix-all : (i : ℕ) (z d : List A) → length d ≤ i → length z ≡ length d → mix i z d ≡ z
+  mix-all zero [] [] l e = refl
+  mix-all (suc i) [] [] l e = refl
+  mix-all i [] (y ∷ d) l e = absurd (omega arith)
+  mix-all i (x ∷ z) [] l e = absurd (omega arith)
+  mix-all zero (x ∷ z) (y ∷ d) l e = absurd (omega arith)
+  mix-all (suc i) (x ∷ z) (y ∷ d) l e = ap (λ (r : List A). x ∷ r) (mix-all i z d (omega arith) (omega arith))
+
+-- ---- a fold over what each element of a list's front gives, element by element
+
+-- the front of a list that is as long as its front of n
+front-held : {A : Type 0} (n : ℕ) (l : List A) → take (length (take n l)) l ≡ take n l
+front-held zero l = refl
+front-held (suc n) [] = refl
+front-held {A} (suc n) (x ∷ l) = ap (λ (r : List A). x ∷ r) (front-held n l)
+
+module _ {A B S : Type 0} (f : S → B → S) (g : A → List B) (s : S) (l : List A) where
+  -- the state after the first i elements
+  abbrev pub folded : ℕ → S
+  folded i = foldl f s (flatMap g (take i l))
+
+  pub fold-none : s ≡ folded 0
+  unfolding flatMap
+  fold-none = refl
+
+  flat-append : (k m : List A) → flatMap g (k ++ m) ≡ flatMap g k ++ flatMap g m
+  unfolding flatMap
+  flat-append [] m = refl
+  flat-append (x ∷ k) m = ap (λ (r : List B). g x ++ r) (flat-append k m) ∙ sym (append-assoc (g x) (flatMap g k) (flatMap g m))
+
+  pub fold-more : (i : ℕ) (a : A) → i < length l → {t u : S} → t ≡ folded i → u ≡ foldl f t (g (getD l i a)) → u ≡ folded (i + 1)
+  unfolding flatMap
+  fold-more i a h {t} {u} before turn =
+      turn
+      ∙ ap (λ (x : S). foldl f x (g (getD l i a))) before
+      ∙ sym (rw (add-one, take-suc l i a, flat-append (take i l) (getD l i a ∷ []), append-nil (g (getD l i a)), foldl-append f s (flatMap g (take i l)) (g (getD l i a))))
+
+  -- all of the front of n
+  pub fold-all : (n i : ℕ) → i ≡ length (take n l) → folded i ≡ folded n
+  fold-all n i e = rw (e, front-held n l)

@@ -1,0 +1,66 @@
+use mathlib.Core.Path.{ap, sym}
+use lib.ListN.{set}
+use mathlib.Core.List.{foldl}
+use Rattle.deps.specs.Batches.{named}
+use Rattle.deps.specs.Keys.{keysOf, joinKey}
+use Rattle.deps.specs.declared.batches.Kind.{Kind}
+use borrow.Author.Needs.{needs}
+use Rattle.deps.proofs.keys.with_named.Statement.{statement}
+use Rattle.deps.proofs.keys.with_named.Tie as tie
+
+enum-told : tie.Need-enum-told
+enum-told c = search needs
+
+enum-known-kind : tie.Need-enum-known-kind
+enum-known-kind c = search needs
+
+cast-columns : tie.Need-cast-columns
+cast-columns c = search needs
+
+columns-requires : tie.Need-columns-requires
+columns-requires c κs = search needs
+
+union-requires : tie.Need-union-requires
+union-requires c κs = search needs
+
+enum-known-kind-2 : tie.Need-enum-known-kind-2
+enum-known-kind-2 c = search needs
+
+cast-columns-2 : tie.Need-cast-columns-2
+cast-columns-2 c = search needs
+
+columns-requires-2 : tie.Need-columns-requires-2
+columns-requires-2 c κs = search needs
+
+union-requires-2 : tie.Need-union-requires-2
+union-requires-2 c κs = search needs
+
+returns : tie.Need-returns
+returns c = search needs
+
+returns-2 : tie.Need-returns-2
+returns-2 c =
+    let a = c .before .before .before .before .before .args in
+    rw (c .union .ensures, c .before .columns .ensures) (sym (ap (λ (k : Kind). foldl (joinKey (keysOf (a .cols .now))) (a .set) (named k)) (c .before .before .before .kind .given .1)))
+
+returns-3 : tie.Need-returns-3
+returns-3 c =
+    let a = c .before .before .before .before .before .args in
+    rw (c .union2 .ensures, c .before .columns2 .ensures) (sym (ap (λ (k : Kind). foldl (joinKey (keysOf (a .cols .now))) (a .set) (named k)) (c .before .before .before .kind2 .given .1)))
+
+pub with-named-spec : {M : Type 1} → statement M
+with-named-spec =
+    tie.close
+    (tie.spec
+    enum-told
+    enum-known-kind
+    cast-columns
+    columns-requires
+    union-requires
+    enum-known-kind-2
+    cast-columns-2
+    columns-requires-2
+    union-requires-2
+    returns
+    returns-2
+    returns-3)

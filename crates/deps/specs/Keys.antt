@@ -1,0 +1,42 @@
+-- Key columns: for each key the highest put column of each row.
+use mathlib.Core.List.{List, foldl}
+use mathlib.Core.Bool.{Bool}
+use Prim.Native.Nat.{ℕ}
+use lib.ListN.{replicate, getD, set}
+use Rattle.deps.specs.Below.{allBelow}
+use Rattle.deps.specs.Sets.{emptySet, setFits, unionOf, raisedTo}
+use Rattle.deps.specs.Batches.{namedKeys, putKeys}
+use Rattle.deps.specs.declared.sets.DepSet.{DepSet}
+use Rattle.deps.specs.declared.batches.Batch.{Batch}
+use Rattle.deps.specs.declared.keys.Keys.{Keys}
+
+abbrev pub keysOf : List (List ℕ) → Keys
+keysOf cols = record { cols = cols }
+
+abbrev pub emptyKeys : Keys
+emptyKeys = keysOf (replicate 256 (replicate 7 0))
+
+-- the columns of a key; a key above 255 has none
+abbrev pub columnsOf : Keys → ℕ → DepSet
+columnsOf k key = record { cols = getD (k .cols) key (replicate 7 0) }
+
+abbrev pub keyFits : ℕ → Keys → ℕ → Bool
+keyFits n k key = setFits n (columnsOf k key)
+
+-- every key's columns within the bounds of n rows
+unfoldable pub keysFit : ℕ → Keys → Bool
+keysFit n k = allBelow 256 (keyFits n k)
+
+abbrev pub joinKey : Keys → DepSet → ℕ → DepSet
+joinKey k d key = unionOf d (columnsOf k key)
+
+-- the union of the key columns of all puts and gets
+abbrev pub identifyOf : Keys → Batch → DepSet
+identifyOf k b = foldl (joinKey k) emptySet (namedKeys b)
+
+abbrev pub raiseKey : ℕ → ℕ → Keys → ℕ → Keys
+raiseKey row col k key = keysOf (set (k .cols) key (raisedTo (columnsOf k key) row col .cols))
+
+-- the slot's row raised to its column for each put key
+abbrev pub refreshedBy : Keys → ℕ → ℕ → Batch → Keys
+refreshedBy k row col b = foldl (raiseKey row col) k (putKeys b)

@@ -1,0 +1,4 @@
+pub mod Below
+pub mod Sets
+pub mod Batches
+pub mod Keys
