@@ -1,10 +1,19 @@
--- Laws of batches.
-use mathlib.Core.Path.{_≡_, sym, _∙_}
-use mathlib.Core.List.{List, map}
-use Prim.Native.Nat.{ℕ, min}
-use lib.ListN.{length, length-map, length-take}
-use Rattle.deps.specs.Batches.{present}
+-- Laws of batches: what a batch holds, and what equal batches have in common.
+use mathlib.Core.Path.{_≡_, refl, ap, sym, _∙_}
+use mathlib.Core.List.{List, [], _∷_, _++_, map}
+use mathlib.Core.Bool.{Bool, true, false, _&&_, true≢false}
+use Prim.Native.Nat.{ℕ, suc, zero, _<_, _≤_, min}
+use native.Mathlib.Omega.{arith}
+use borrow.Author.Tests.{lt-ltb, eqb-true, eq-eqb}
+use lib.Dec.{eqb}
+use lib.ListN.{length, take, getD, replicate, length-map, length-take}
+use lib.Seq.{take-append-seam, take-suc-set, getD-take, ext-getD}
+use Rattle.deps.specs.Batches.{noRequest, batchOf, present, request, withRequest, sameKind, sameRequest, sameAt, sameBatch}
+use Rattle.deps.specs.declared.batches.Kind.{Kind}
+use Rattle.deps.specs.declared.batches.Kind.the-variants.{Other, Put, Get}
+use Rattle.deps.specs.declared.batches.Request.{Request}
 use Rattle.deps.specs.declared.batches.Batch.{Batch}
+use Rattle.deps.proofs.Loops.{all-at, all-each, both-true}
 
 -- an array of structs is as long as the list of what it holds
 pub length-mapped : (X Y : Type 0) (f : X → Y) (l : List X) (n : ℕ) → length (map f l) ≡ n → length l ≡ n
@@ -12,3 +21,73 @@ length-mapped X Y f l n e = sym (length-map l f) ∙ e
 
 pub held-number : (b : Batch) → length (b .reqs) ≡ 4 → length (present b) ≡ min (b .count) 4
 held-number b l = rw (length-take, l)
+
+-- ---- what a batch holds
+
+pub batch-of-holds : (l : List Request) → present (batchOf l) ≡ l
+batch-of-holds l = take-append-seam l _
+
+pub with-holds : (b : Batch) (q : Request) → length (b .reqs) ≡ 4 → b .count < 4 → present (withRequest b q) ≡ present b ++ (q ∷ [])
+with-holds b q l h = rw (lt-ltb (b .count) 4 h) (take-suc-set (b .reqs) (b .count) q (omega arith))
+
+-- ---- equality: the tests say so exactly of equal kinds, requests, batches
+
+pub same-kinds : (k l : Kind) → sameKind k l ≡ true → k ≡ l
+same-kinds Other Other e = refl
+same-kinds Other (Put l w) e = absurd (true≢false (sym e))
+same-kinds Other (Get l) e = absurd (true≢false (sym e))
+same-kinds (Put k v) Other e = absurd (true≢false (sym e))
+same-kinds (Put k v) (Put l w) e =
+    let p = both-true (eqb k l) (eqb v w) e in
+    rw (eqb-true k l (p .0), eqb-true v w (p .1))
+same-kinds (Put k v) (Get l) e = absurd (true≢false (sym e))
+same-kinds (Get k) Other e = absurd (true≢false (sym e))
+same-kinds (Get k) (Put l w) e = absurd (true≢false (sym e))
+same-kinds (Get k) (Get l) e = ap Get (eqb-true k l e)
+
+pub kind-itself : (k : Kind) → sameKind k k ≡ true
+kind-itself Other = refl
+kind-itself (Put k v) = rw (eq-eqb k k refl, eq-eqb v v refl)
+kind-itself (Get k) = eq-eqb k k refl
+
+abbrev made : ℕ → ℕ → Kind → Request
+made client id kind = record { client = client; id = id; kind = kind }
+
+pub same-requests : (p q : Request) → sameRequest p q ≡ true → p ≡ q
+unfolding sameRequest
+same-requests p q e =
+    let s = both-true _ _ e in
+    let t = both-true _ _ (s .1) in
+    let c : p .client ≡ q .client = eqb-true _ _ (s .0) in
+    let i : p .id ≡ q .id = eqb-true _ _ (t .0) in
+    let k : p .kind ≡ q .kind = same-kinds _ _ (t .1) in
+    let r : made (p .client) (p .id) (p .kind) ≡ made (q .client) (q .id) (q .kind) = rw (c, i, k) in
+    r
+
+pub request-itself : (p : Request) → sameRequest p p ≡ true
+unfolding sameRequest
+request-itself p = rw (eq-eqb (p .client) (p .client) refl, eq-eqb (p .id) (p .id) refl, kind-itself (p .kind))
+
+pub same-batches : (a b : Batch) → length (a .reqs) ≡ 4 → length (b .reqs) ≡ 4 → sameBatch a b ≡ true → (a .count ≡ b .count) × (present a ≡ present b)
+unfolding sameBatch
+same-batches a b la lb e =
+    let s = both-true _ _ e in
+    let n : a .count ≡ b .count = eqb-true _ _ (s .0) in
+    let ha = held-number a la in
+    let hb = held-number b lb in (
+      n,
+      ext-getD noRequest (present a) (present b) (omega arith)
+          (λ i h. getD-take (a .count) (a .reqs) i noRequest (omega arith)
+          ∙ same-requests _ _ (all-at (sameAt a b) _ (s .1) i h)
+          ∙ sym (getD-take (b .count) (b .reqs) i noRequest (omega arith))),
+    )
+
+pub batches-same : (a b : Batch) → length (a .reqs) ≡ 4 → length (b .reqs) ≡ 4 → a .count ≡ b .count → present a ≡ present b → sameBatch a b ≡ true
+unfolding sameBatch
+batches-same a b la lb n e =
+    rw (eq-eqb (a .count) (b .count) n, all-each (sameAt a b) (length (present a)) (λ i h. rw (← at i h) (request-itself (request a i))))
+  where
+    at : (i : ℕ) → i < length (present a) → request a i ≡ request b i
+    at i h =
+        let ha = held-number a la in
+        sym (getD-take (a .count) (a .reqs) i noRequest (omega arith)) ∙ ap (λ (l : List Request). getD l i noRequest) e ∙ getD-take (b .count) (b .reqs) i noRequest (omega arith)

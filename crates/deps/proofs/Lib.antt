@@ -1,3 +1,4 @@
+pub mod Outcome
 pub mod Loops
 pub mod SetLaws
 pub mod BatchLaws

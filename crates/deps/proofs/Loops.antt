@@ -1,17 +1,21 @@
 -- What a loop has shown so far, law by law: a test of all below a bound, an array filled from the front, a fold over a batch's requests.
 use mathlib.Core.Path.{_≡_, refl, ap, sym, _∙_}
 use mathlib.Core.List.{List, [], _∷_, _++_, append-assoc, append-nil, foldl, foldl-append, flatMap}
-use mathlib.Core.Bool.{Bool, true, false, and-false}
+use mathlib.Core.Bool.{Bool, true, false, _&&_, and-false, true≢false}
 use mathlib.Core.Logic.{⊎-elim}
 use Prim.Native.Nat.{ℕ, suc, zero, _+_, _<_, _≤_}
 use native.Mathlib.Nat.{eq-or-lt-of-le, le-of-suc-le-suc}
 use native.Mathlib.Numerals.{add-one}
 use native.Mathlib.Omega.{arith}
-use lib.ListN.{length, getD, take, drop, set}
+use lib.ListN.{length, getD, take, drop, set, replicate}
 use lib.Seq.{take-suc}
 use Rattle.deps.specs.Below.{allBelow}
 
 -- ---- a test of all below a bound
+
+pub both-true : (x y : Bool) → (x && y) ≡ true → (x ≡ true) × (y ≡ true)
+both-true true y e = (refl, e)
+both-true false y e = absurd (true≢false (sym e))
 
 pub all-none : (p : ℕ → Bool) → allBelow 0 p ≡ true
 unfolding allBelow
@@ -30,6 +34,19 @@ all-not p (suc n) i l h =
     (λ (e : i ≡ n). rw (← e, h, and-false))
     (λ (k : i < n). rw (all-not p n i k h))
     (eq-or-lt-of-le (le-of-suc-le-suc l))
+
+-- what a test that passes at all of them says of each, and the other way
+pub all-at : (p : ℕ → Bool) (n : ℕ) → allBelow n p ≡ true → (i : ℕ) → i < n → p i ≡ true
+all-at p n h i l = go (p i) refl
+  where
+    go : (b : Bool) → p i ≡ b → p i ≡ true
+    go true e = e
+    go false e = absurd (true≢false (sym h ∙ all-not p n i l e))
+
+pub all-each : (p : ℕ → Bool) (n : ℕ) → ((i : ℕ) → i < n → p i ≡ true) → allBelow n p ≡ true
+unfolding allBelow
+all-each p zero h = refl
+all-each p (suc n) h = rw (all-each p n (λ i l. h i (omega arith)), h n (omega arith))
 
 -- ---- an array filled from the front
 
@@ -63,6 +80,17 @@ module _ {A : Type 0} where
   mix-all i (x ∷ z) [] l e = absurd (omega arith)
   mix-all zero (x ∷ z) (y ∷ d) l e = absurd (omega arith)
   mix-all (suc i) (x ∷ z) (y ∷ d) l e = ap (λ (r : List A). x ∷ r) (mix-all i z d (omega arith) (omega arith))
+
+pub replicate-at : {A : Type 0} (n i : ℕ) (a : A) → getD (replicate n a) i a ≡ a
+replicate-at zero i a = refl
+replicate-at (suc n) zero a = refl
+replicate-at (suc n) (suc i) a = replicate-at n i a
+
+-- ---- what every step of a fold keeps
+
+pub fold-keeps : {S B : Type 0} (P : S → Type 0) (f : S → B → S) → ((s : S) (b : B) → P s → P (f s b)) → (l : List B) (s : S) → P s → P (foldl f s l)
+fold-keeps P f step [] s h = h
+fold-keeps P f step (b ∷ l) s h = fold-keeps P f step l (f s b) (step s b h)
 
 -- ---- a fold over what each element of a list's front gives, element by element
 

@@ -76,9 +76,15 @@ entered Other = []
 entered (Put key value) = key ∷ []
 entered (Get key) = []
 
+abbrev pub keyNamed : Request → List ℕ
+keyNamed q = named (q .kind)
+
+abbrev pub keyEntered : Request → List ℕ
+keyEntered q = entered (q .kind)
+
 -- the keys of all puts and gets, and the keys of all puts
 abbrev pub namedKeys : Batch → List ℕ
-namedKeys b = flatMap (λ (q : Request). named (q .kind)) (present b)
+namedKeys b = flatMap keyNamed (present b)
 
 abbrev pub putKeys : Batch → List ℕ
-putKeys b = flatMap (λ (q : Request). entered (q .kind)) (present b)
+putKeys b = flatMap keyEntered (present b)

@@ -4,7 +4,7 @@ use mathlib.Core.Bool.{Bool}
 use Prim.Native.Nat.{ℕ}
 use lib.ListN.{replicate, getD, set}
 use Rattle.deps.specs.Below.{allBelow}
-use Rattle.deps.specs.Sets.{emptySet, setFits, unionOf, raisedTo}
+use Rattle.deps.specs.Sets.{setOf, emptySet, setFits, unionOf, raisedTo}
 use Rattle.deps.specs.Batches.{namedKeys, putKeys}
 use Rattle.deps.specs.declared.sets.DepSet.{DepSet}
 use Rattle.deps.specs.declared.batches.Batch.{Batch}
@@ -18,7 +18,7 @@ emptyKeys = keysOf (replicate 256 (replicate 7 0))
 
 -- the columns of a key; a key above 255 has none
 abbrev pub columnsOf : Keys → ℕ → DepSet
-columnsOf k key = record { cols = getD (k .cols) key (replicate 7 0) }
+columnsOf k key = setOf (getD (k .cols) key (replicate 7 0))
 
 abbrev pub keyFits : ℕ → Keys → ℕ → Bool
 keyFits n k key = setFits n (columnsOf k key)

@@ -16,6 +16,9 @@ abbrev pub depOf : ℕ → Dep
 depOf zero = nothing
 depOf (suc c) = column c
 
+abbrev pub setOf : List ℕ → DepSet
+setOf numbers = record { cols = numbers }
+
 abbrev pub number : DepSet → ℕ → ℕ
 number d row = getD (d .cols) row 0
 
@@ -24,7 +27,7 @@ abbrev pub inRow : DepSet → ℕ → Dep
 inRow d row = depOf (number d row)
 
 abbrev pub emptySet : DepSet
-emptySet = record { cols = replicate 7 0 }
+emptySet = setOf (replicate 7 0)
 
 -- refusal 4: a dependency at column 32 or more, or in a row n or more
 abbrev pub depFits : ℕ → ℕ → Dep → Bool
@@ -50,11 +53,11 @@ greaterEach (x ∷ xs) [] = x ∷ xs
 greaterEach (x ∷ xs) (y ∷ ys) = max x y ∷ greaterEach xs ys
 
 abbrev pub unionOf : DepSet → DepSet → DepSet
-unionOf a b = record { cols = greaterEach (a .cols) (b .cols) }
+unionOf a b = setOf (greaterEach (a .cols) (b .cols))
 
 -- the row raised to at least the column
 abbrev pub raisedTo : DepSet → ℕ → ℕ → DepSet
-raisedTo d row col = record { cols = set (d .cols) row (max (number d row) (suc col)) }
+raisedTo d row col = setOf (set (d .cols) row (max (number d row) (suc col)))
 
 abbrev pub sameRow : DepSet → DepSet → ℕ → Bool
 sameRow a b row = eqb (number a row) (number b row)

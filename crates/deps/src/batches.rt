@@ -116,7 +116,7 @@ impl Batch {
         ensures { λ r. ⌜ r ≡ length (present self) ⌝ }
     {
         let count = self.count;
-        if count < 4 { count } else { 4 }
+        if count <= 4 { count } else { 4 }
     }
 
     // At most 4 requests, and no key of a put or get above 255.

@@ -3,7 +3,7 @@ use mathlib.Core.List.{List, []}
 use Prim.Native.Nat.{ℕ}
 use native.Mathlib.Omega.{arith}
 use lib.ListN.{replicate, List·getD-eq-default}
-use Rattle.deps.specs.declared.sets.DepSet.{DepSet}
+use Rattle.deps.specs.Sets.{setOf}
 use Rattle.deps.proofs.KeyLaws.{inside}
 use borrow.Author.Needs.{needs}
 use Rattle.deps.proofs.keys.columns.Statement.{statement}
@@ -16,10 +16,10 @@ element-copy-out-own : tie.Need-element-copy-out-own
 element-copy-out-own c = search needs
 
 returns : tie.Need-returns
-returns c = ap {B = DepSet} (λ (l : List ℕ). record { cols = l }) (inside (c .before .before .args .cols .now) (c .before .before .args .key) [] (replicate 7 0) (omega arith))
+returns c = ap setOf (inside (c .before .before .args .cols .now) (c .before .before .args .key) [] (replicate 7 0) (omega arith))
 
 returns-2 : tie.Need-returns-2
-returns-2 c = ap {B = DepSet} (λ (l : List ℕ). record { cols = l }) (sym (List·getD-eq-default (c .before .args .cols .now) (replicate 7 0) (omega arith)))
+returns-2 c = ap setOf (sym (List·getD-eq-default (c .before .args .cols .now) (replicate 7 0) (omega arith)))
 
 pub columns-spec : {M : Type 1} → statement M
 columns-spec = tie.close (tie.spec mul-own element-copy-out-own returns returns-2)

@@ -5,17 +5,13 @@ use native.Mathlib.Omega.{arith}
 use lib.ListN.{length}
 use mathlib.Core.List.{foldl}
 use Rattle.deps.specs.Sets.{emptySet}
-use Rattle.deps.specs.Batches.{noRequest, present, named, namedKeys}
+use Rattle.deps.specs.Batches.{noRequest, present, keyNamed, namedKeys}
 use Rattle.deps.specs.Keys.{keysOf, joinKey}
-use Rattle.deps.specs.declared.batches.Request.{Request}
 use Rattle.deps.proofs.Loops.{folded, fold-none, fold-more, fold-all}
 use Rattle.deps.proofs.BatchLaws.{length-mapped, held-number}
 use borrow.Author.Needs.{needs}
 use Rattle.deps.proofs.keys.Keys.identify.Statement.{statement}
 use Rattle.deps.proofs.keys.Keys.identify.Tie as tie
-
-abbrev keyNamed : Request → List ℕ
-keyNamed q = named (q .kind)
 
 abbrev Inv-loop : tie.InvT-loop
 Inv-loop batch cols held out₀ i₀ out i = (i ≤ held) × (held ≤ 4) × (out ≡ folded (joinKey (keysOf cols)) keyNamed emptySet (batch .reqs) i)

@@ -4,9 +4,8 @@ use Prim.Native.Nat.{ℕ, _≤_, _-_}
 use native.Mathlib.Omega.{arith}
 use lib.ListN.{length, getD}
 use mathlib.Core.List.{foldl}
-use Rattle.deps.specs.Batches.{noRequest, present, entered, putKeys}
+use Rattle.deps.specs.Batches.{noRequest, present, keyEntered, putKeys}
 use Rattle.deps.specs.Keys.{keysOf, raiseKey}
-use Rattle.deps.specs.declared.batches.Request.{Request}
 use Rattle.deps.specs.declared.keys.Keys.{Keys}
 use Rattle.deps.proofs.Loops.{folded, fold-none, fold-more, fold-all}
 use Rattle.deps.proofs.BatchLaws.{length-mapped, held-number}
@@ -14,9 +13,6 @@ use Rattle.deps.proofs.KeyLaws.{length-raise}
 use borrow.Author.Needs.{needs}
 use Rattle.deps.proofs.keys.Keys.refresh.Statement.{statement}
 use Rattle.deps.proofs.keys.Keys.refresh.Tie as tie
-
-abbrev keyEntered : Request → List ℕ
-keyEntered q = entered (q .kind)
 
 abbrev Inv-loop : tie.InvT-loop
 Inv-loop row col batch cols₀ held i₀ cols i = (i ≤ held) × (held ≤ 4) × (length cols ≡ 256) × (keysOf cols ≡ folded (raiseKey row col) keyEntered (keysOf cols₀) (batch .reqs) i)

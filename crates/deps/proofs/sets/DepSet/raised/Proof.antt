@@ -5,7 +5,7 @@ use native.Mathlib.Omega.{arith}
 use native.Mathlib.Numerals.{add-one}
 use lib.ListN.{length}
 use lib.Seq.{set-out}
-use Rattle.deps.specs.declared.sets.DepSet.{DepSet}
+use Rattle.deps.specs.Sets.{setOf}
 use borrow.Author.Needs.{needs}
 use Rattle.deps.proofs.sets.DepSet.raised.Statement.{statement}
 use Rattle.deps.proofs.sets.DepSet.raised.Tie as tie
@@ -32,7 +32,7 @@ returns-2 : tie.Need-returns-2
 returns-2 c =
     let s = c .before .args .self .cols in
     let ls : length s ≡ 7 = search needs in
-    ap {B = DepSet} (λ (l : List ℕ). record { cols = l }) (sym (set-out s _ _ (omega arith)))
+    ap setOf (sym (set-out s _ _ (omega arith)))
 
 pub raised-spec : {M : Type 1} → statement M
 raised-spec =

@@ -3,8 +3,7 @@ use mathlib.Core.List.{List}
 use Prim.Native.Nat.{ℕ, _≤_, _-_}
 use native.Mathlib.Omega.{arith}
 use lib.ListN.{length, getD}
-use Rattle.deps.specs.Sets.{greaterEach}
-use Rattle.deps.specs.declared.sets.DepSet.{DepSet}
+use Rattle.deps.specs.Sets.{setOf, greaterEach}
 use Rattle.deps.proofs.Loops.{mix, mix-more, mix-next, mix-all}
 use Rattle.deps.proofs.SetLaws.{length-greater, greater-at}
 use borrow.Author.Needs.{needs}
@@ -46,7 +45,7 @@ loop-again c =
     let i = c .before .before .before .before .loop .row in
     let ls : length s ≡ 7 = search needs in
     let lo : length o ≡ 7 = search needs in
-    let lz : length (greaterEach s o) ≡ length s = length-greater s o (omega arith) in
+    let lz : length (greaterEach s o) ≡ length s = omega (arith, length-greater s o) in
     let inv = c .before .before .before .before .loop .inv .1 in
     let v : c .greater .result ≡ getD (greaterEach s o) i 0 = c .greater .ensures ∙ rw (inv, mix-next i (greaterEach s o) s 0 lz, greater-at s o i) in
     (omega arith, rw (inv, v, mix-more i (greaterEach s o) s 0 (omega arith) lz))
@@ -58,7 +57,7 @@ returns c =
     let o = a .t2 .cols in
     let ls : length s ≡ 7 = search needs in
     let lo : length o ≡ 7 = search needs in
-    ap {B = DepSet} (λ (l : List ℕ). record { cols = l }) (c .before .loop .inv .1 ∙ mix-all (c .before .loop .row) (greaterEach s o) s (omega arith) (length-greater s o (omega arith)))
+    ap setOf (c .before .loop .inv .1 ∙ mix-all (c .before .loop .row) (greaterEach s o) s (omega arith) (omega (arith, length-greater s o)))
 
 pub union-spec : {M : Type 1} → statement M
 union-spec =

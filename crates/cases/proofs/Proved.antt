@@ -1,0 +1,9 @@
+-- Every case holds, by computing.
+use mathlib.Core.Path.{refl}
+use mathlib.Core.List.{flatMap}
+use Rattle.deps.specs.Sets.{greaterEach}
+use Rattle.cases.specs.Cases.{Claim, Every, cases}
+
+pub every-case : Every cases
+unfolding Claim Every cases greaterEach flatMap
+every-case = (refl, (refl, (refl, (refl, (refl, (refl, (refl, tt)))))))
