@@ -1,12 +1,12 @@
 -- Laws of batches: what a batch holds, and what equal batches have in common.
 use mathlib.Core.Path.{_≡_, refl, ap, sym, _∙_}
-use mathlib.Core.List.{List, [], _∷_, _++_, map}
-use mathlib.Core.Bool.{Bool, true, false, _&&_, true≢false}
-use Prim.Native.Nat.{ℕ, suc, zero, _<_, _≤_, min}
+use mathlib.Core.List.{List, [], _∷_, _++_}
+use mathlib.Core.Bool.{true, true≢false}
+use Prim.Native.Nat.{ℕ, _<_, min}
 use native.Mathlib.Omega.{arith}
 use borrow.Author.Tests.{lt-ltb, eqb-true, eq-eqb}
 use lib.Dec.{eqb}
-use lib.ListN.{length, take, getD, replicate, length-map, length-take}
+use lib.ListN.{length, getD, length-take}
 use lib.Seq.{take-append-seam, take-suc-set, getD-take, ext-getD}
 use Rattle.deps.specs.Batches.{noRequest, batchOf, present, request, withRequest, sameKind, sameRequest, sameAt, sameBatch}
 use Rattle.deps.specs.declared.batches.Kind.{Kind}
@@ -14,10 +14,6 @@ use Rattle.deps.specs.declared.batches.Kind.the-variants.{Other, Put, Ge
 use Rattle.deps.specs.declared.batches.Request.{Request}
 use Rattle.deps.specs.declared.batches.Batch.{Batch}
 use Rattle.deps.proofs.Loops.{all-at, all-each, both-true}
-
--- an array of structs is as long as the list of what it holds
-pub length-mapped : (X Y : Type 0) (f : X → Y) (l : List X) (n : ℕ) → length (map f l) ≡ n → length l ≡ n
-length-mapped X Y f l n e = sym (length-map l f) ∙ e
 
 pub held-number : (b : Batch) → length (b .reqs) ≡ 4 → length (present b) ≡ min (b .count) 4
 held-number b l = rw (length-take, l)
@@ -28,6 +24,7 @@ pub batch-of-holds : (l : List Request) → present (batchOf l) ≡ l
 batch-of-holds l = take-append-seam l _
 
 pub with-holds : (b : Batch) (q : Request) → length (b .reqs) ≡ 4 → b .count < 4 → present (withRequest b q) ≡ present b ++ (q ∷ [])
+unfolding withRequest
 with-holds b q l h = rw (lt-ltb (b .count) 4 h) (take-suc-set (b .reqs) (b .count) q (omega arith))
 
 -- ---- equality: the tests say so exactly of equal kinds, requests, batches

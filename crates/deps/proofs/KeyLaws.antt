@@ -1,28 +1,23 @@
 -- Laws of the key columns: identify is the least set above the columns of each key named; refresh raises one row of each put key, and nothing else.
-use mathlib.Core.Path.{_≡_, refl, ap, sym, _∙_}
+use mathlib.Core.Path.{_≡_, refl, ap, _∙_}
 use mathlib.Core.List.{List, [], _∷_, foldl, List·Memᴰ, List·Memᴰ·head, List·Memᴰ·tail, List·Memᴰ·cases-cons, List·Memᴰ·not-nil}
 use mathlib.Core.Logic.{_⊎_, inl, inr, ⊎-elim}
 use mathlib.Core.Bool.{Bool, true, false}
-use Prim.Native.Nat.{ℕ, suc, zero, _<_, _≤_}
+use Prim.Native.Nat.{ℕ, _<_}
 use native.Mathlib.Omega.{arith}
 use borrow.Author.Tests.{ltb-true, ltb-false, eqb-true, eqb-false}
 use lib.Dec.{ltb, eqb}
-use lib.ListN.{length, getD, replicate, length-set, List·getD-eq-default}
+use lib.ListN.{length, replicate, length-set, List·getD-eq-default}
 use lib.Seq.{set-out, getD-set-same, getD-set-other}
-use Rattle.deps.specs.Sets.{setOf, number, emptySet, setFits, unionOf, raisedTo, AtMost}
+use Rattle.deps.specs.Sets.{setOf, number, emptySet, setFits, raisedTo, AtMost}
 use Rattle.deps.specs.Batches.{namedKeys, putKeys}
 use Rattle.deps.specs.Keys.{keysOf, emptyKeys, columnsOf, keyFits, keysFit, joinKey, identifyOf, raiseKey, refreshedBy}
 use Rattle.deps.specs.declared.sets.DepSet.{DepSet}
 use Rattle.deps.specs.declared.batches.Batch.{Batch}
 use Rattle.deps.specs.declared.keys.Keys.{Keys}
-use Rattle.deps.proofs.Loops.{all-at, all-each, fold-keeps, replicate-at}
+use Rattle.deps.proofs.Lists.{replicate-at, fold-keeps}
+use Rattle.deps.proofs.Loops.{all-at, all-each}
 use Rattle.deps.proofs.SetLaws.{union-left, union-right, union-least, at-most-trans, empty-least, empty-fits, union-fits, raised-other, raised-lowers-nothing, raised-fits, raised-twice}
-
--- inside a list the default does not show
-pub inside : {A : Type 0} (l : List A) (i : ℕ) (d e : A) → i < length l → getD l i d ≡ getD l i e
-inside [] i d e h = absurd (omega arith)
-inside (x ∷ l) zero d e h = refl
-inside (x ∷ l) (suc i) d e h = inside l i d e (omega arith)
 
 -- ---- identify
 
@@ -46,9 +41,11 @@ module _ (k : Keys) where
 
   -- every key named, and nothing that they do not ask for
   pub identify-each : (b : Batch) (key : ℕ) → List·Memᴰ key (namedKeys b) → AtMost (columnsOf k key) (identifyOf k b)
+  unfolding identifyOf
   identify-each b key m = above-each (namedKeys b) emptySet key m
 
   pub identify-least : (b : Batch) (d : DepSet) → ((key : ℕ) → List·Memᴰ key (namedKeys b) → AtMost (columnsOf k key) d) → AtMost (identifyOf k b) d
+  unfolding identifyOf
   identify-least b d each = least-above (namedKeys b) emptySet d (empty-least d) each
 
   pub columns-fit : (n : ℕ) → length (k .cols) ≡ 256 → keysFit n k ≡ true → (key : ℕ) → setFits n (columnsOf k key) ≡ true
@@ -60,6 +57,7 @@ module _ (k : Keys) where
       go false e = rw (List·getD-eq-default (k .cols) (replicate 7 0) {n = key} (omega (arith, ltb-false key 256 e))) (empty-fits n)
 
   pub identify-fits : (n : ℕ) (b : Batch) → length (k .cols) ≡ 256 → keysFit n k ≡ true → setFits n (identifyOf k b) ≡ true
+  unfolding identifyOf
   identify-fits n b l h =
       fold-keeps (λ (d : DepSet). setFits n d ≡ true) (joinKey k) (λ d key f. union-fits n d (columnsOf k key) f (columns-fit n l h key)) (namedKeys b) emptySet (empty-fits n)
 
@@ -125,12 +123,15 @@ module _ (row col : ℕ) where
 
   -- each put key is raised in the slot's row, any other key kept
   pub refresh-put-key : (k : Keys) (b : Batch) (key : ℕ) → key < length (k .cols) → List·Memᴰ key (putKeys b) → columnsOf (refreshedBy k row col b) key ≡ raisedTo (columnsOf k key) row col
+  unfolding refreshedBy
   refresh-put-key k b key l m = own (putKeys b) k key l m
 
   pub refresh-other-key : (k : Keys) (b : Batch) (key : ℕ) → (List·Memᴰ key (putKeys b) → ⊥) → columnsOf (refreshedBy k row col b) key ≡ columnsOf k key
+  unfolding refreshedBy
   refresh-other-key k b key out = other (putKeys b) k key out
 
   pub refresh-other-row : (k : Keys) (b : Batch) (key r : ℕ) → (r ≡ row → ⊥) → number (columnsOf (refreshedBy k row col b) key) r ≡ number (columnsOf k key) r
+  unfolding refreshedBy
   refresh-other-row k b key r out =
       ⊎-elim
       (λ e. ap (λ (d : DepSet). number d r) e)
@@ -138,6 +139,7 @@ module _ (row col : ℕ) where
       (either (putKeys b) k key)
 
   pub refresh-lowers-nothing : (k : Keys) (b : Batch) (key : ℕ) → AtMost (columnsOf k key) (columnsOf (refreshedBy k row col b) key)
+  unfolding refreshedBy
   refresh-lowers-nothing k b key =
       ⊎-elim
       (λ e r. omega (arith, ap (λ (d : DepSet). number d r) e))
@@ -145,7 +147,7 @@ module _ (row col : ℕ) where
       (either (putKeys b) k key)
 
   pub refresh-fits : (n : ℕ) (k : Keys) (b : Batch) → row < n → col < 32 → keysFit n k ≡ true → keysFit n (refreshedBy k row col b) ≡ true
-  unfolding keysFit
+  unfolding keysFit refreshedBy
   refresh-fits n k b l m h =
       all-each (keyFits n (refreshedBy k row col b)) 256
       (λ key i. ⊎-elim

@@ -7,8 +7,8 @@ use Prim.Native.Nat.{ℕ, suc, zero, _+_, _<_, _≤_}
 use native.Mathlib.Nat.{eq-or-lt-of-le, le-of-suc-le-suc}
 use native.Mathlib.Numerals.{add-one}
 use native.Mathlib.Omega.{arith}
-use lib.ListN.{length, getD, take, drop, set, replicate}
-use lib.Seq.{take-suc}
+use lib.ListN.{length, getD, take, drop, set, drop-of-length-le}
+use lib.Seq.{take-all, take-suc, drop-cons, length-take-le, append-snoc, set-at, getD-at}
 use Rattle.deps.specs.Below.{allBelow}
 
 -- ---- a test of all below a bound
@@ -50,47 +50,24 @@ all-each p (suc n) h = rw (all-each p n (λ i l. h i (omega arith)), h n (omega 
 
 -- ---- an array filled from the front
 
-module _ {A : Type 0} where
-  -- the first i elements of z, then d's own
-  abbrev pub mix : ℕ → List A → List A → List A
-  mix i z d = take i z ++ drop i d
+-- the first i elements of z, then d's own
+abbrev pub mix : {A : Type 0} → List A → List A → ℕ → List A
+mix z d i = take i z ++ drop i d
 
-  pub mix-more : (i : ℕ) (z d : List A) (a : A) → i < length d → length z ≡ length d → set (mix i z d) i (getD z i a) ≡ mix (i + 1) z d
-  mix-more i z d a l e = rw add-one (step i z d l e)
-    where
-      step : (i : ℕ) (z d : List A) → i < length d → length z ≡ length d → set (mix i z d) i (getD z i a) ≡ mix (suc i) z d
-      step i [] [] l e = absurd (omega arith)
-      step i [] (y ∷ d) l e = absurd (omega arith)
-      step i (x ∷ z) [] l e = absurd (omega arith)
-      step zero (x ∷ z) (y ∷ d) l e = refl
-      step (suc i) (x ∷ z) (y ∷ d) l e = ap (λ (r : List A). x ∷ r) (step i z d (omega arith) (omega arith))
+module _ {A : Type 0} (z d : List A) (e : length z ≡ length d) where
+  front : (i : ℕ) → i ≤ length d → length (take i z) ≡ i
+  front i l = length-take-le i z (omega arith)
+
+  pub mix-more : (i : ℕ) (a : A) → i < length d → set (mix z d i) i (getD z i a) ≡ mix z d (i + 1)
+  mix-more i a l =
+      rw (add-one, drop-cons d i a l, set-at (take i z) (getD d i a) (drop (suc i) d) (getD z i a) i (front i (omega arith)), take-suc z i a (omega arith), append-snoc)
 
   -- the element that the next turn looks at is still d's
-  pub mix-next : (i : ℕ) (z d : List A) (a : A) → length z ≡ length d → getD (mix i z d) i a ≡ getD d i a
-  mix-next zero z d a e = refl
-  mix-next (suc i) [] [] a e = refl
-  mix-next (suc i) [] (y ∷ d) a e = absurd (omega arith)
-  mix-next (suc i) (x ∷ z) [] a e = absurd (omega arith)
-  mix-next (suc i) (x ∷ z) (y ∷ d) a e = mix-next i z d a (omega arith)
+  pub mix-next : (i : ℕ) (a : A) → i < length d → getD (mix z d i) i a ≡ getD d i a
+  mix-next i a l = rw (drop-cons d i a l, getD-at (take i z) (getD d i a) (drop (suc i) d) a i (front i (omega arith)))
 
-  pub mix-all : (i : ℕ) (z d : List A) → length d ≤ i → length z ≡ length d → mix i z d ≡ z
-  mix-all zero [] [] l e = refl
-  mix-all (suc i) [] [] l e = refl
-  mix-all i [] (y ∷ d) l e = absurd (omega arith)
-  mix-all i (x ∷ z) [] l e = absurd (omega arith)
-  mix-all zero (x ∷ z) (y ∷ d) l e = absurd (omega arith)
-  mix-all (suc i) (x ∷ z) (y ∷ d) l e = ap (λ (r : List A). x ∷ r) (mix-all i z d (omega arith) (omega arith))
-
-pub replicate-at : {A : Type 0} (n i : ℕ) (a : A) → getD (replicate n a) i a ≡ a
-replicate-at zero i a = refl
-replicate-at (suc n) zero a = refl
-replicate-at (suc n) (suc i) a = replicate-at n i a
-
--- ---- what every step of a fold keeps
-
-pub fold-keeps : {S B : Type 0} (P : S → Type 0) (f : S → B → S) → ((s : S) (b : B) → P s → P (f s b)) → (l : List B) (s : S) → P s → P (foldl f s l)
-fold-keeps P f step [] s h = h
-fold-keeps P f step (b ∷ l) s h = fold-keeps P f step l (f s b) (step s b h)
+  pub mix-all : (i : ℕ) → length d ≤ i → mix z d i ≡ z
+  mix-all i l = rw (take-all i z (omega arith), drop-of-length-le d l, append-nil)
 
 -- ---- a fold over what each element of a list's front gives, element by element
 

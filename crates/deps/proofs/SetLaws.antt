@@ -3,15 +3,16 @@ use mathlib.Core.Path.{_≡_, refl, ap, sym, _∙_}
 use mathlib.Core.List.{List, [], _∷_}
 use mathlib.Core.Logic.{_⊎_, inl, inr, ⊎-elim}
 use mathlib.Core.Bool.{Bool, true, false, _&&_}
-use Prim.Native.Nat.{ℕ, suc, zero, _<_, _≤_, max}
+use Prim.Native.Nat.{ℕ, suc, zero, _<_, max}
 use native.Mathlib.Omega.{arith}
 use borrow.Author.Tests.{lt-ltb, ltb-true, ltb-false, leb-true, leb-false, eqb-true, eqb-false, eq-eqb}
 use lib.Dec.{ltb, leb, eqb}
-use lib.ListN.{length, getD, replicate, set, length-set}
+use lib.ListN.{length, getD, set}
 use lib.Seq.{ext-getD, set-out, set-set, getD-set-same, getD-set-other}
 use Rattle.deps.specs.Sets.{Dep, nothing, column, depOf, setOf, number, inRow, emptySet, depFits, rowFits, setFits, greaterDep, greaterEach, unionOf, raisedTo, sameRow, sameSet, AtMost}
 use Rattle.deps.specs.declared.sets.DepSet.{DepSet}
-use Rattle.deps.proofs.Loops.{both-true, all-at, all-each, replicate-at}
+use Rattle.deps.proofs.Lists.{replicate-at}
+use Rattle.deps.proofs.Loops.{both-true, all-at, all-each}
 
 -- ---- union, row by row
 
@@ -29,9 +30,11 @@ greater-at (x ∷ a) (y ∷ b) zero = refl
 greater-at (x ∷ a) (y ∷ b) (suc i) = greater-at a b i
 
 pub union-rows : (a b : DepSet) → length (unionOf a b .cols) ≡ max (length (a .cols)) (length (b .cols))
+unfolding unionOf
 union-rows a b = length-greater (a .cols) (b .cols)
 
 pub union-number : (a b : DepSet) (row : ℕ) → number (unionOf a b) row ≡ max (number a row) (number b row)
+unfolding unionOf
 union-number a b row = greater-at (a .cols) (b .cols) row
 
 dep-max : (j k : ℕ) → depOf (max j k) ≡ greaterDep (depOf j) (depOf k)
@@ -101,12 +104,14 @@ dep-fits-number n row zero h = absurd (h refl)
 dep-fits-number n row (suc c) h = refl
 
 pub fits-each : (n : ℕ) (d : DepSet) → setFits n d ≡ true → (row col : ℕ) → row < 7 → inRow d row ≡ column col → (row < n) × (col < 32)
+unfolding setFits
 fits-each n d h row col l e =
     let t : depFits n row (column col) ≡ true = ap (depFits n row) (sym e) ∙ all-at (rowFits n d) 7 h row l in
     let p = both-true (ltb row n) (ltb col 32) t in
     (ltb-true row n (p .0), ltb-true col 32 (p .1))
 
 pub each-fits : (n : ℕ) (d : DepSet) → ((row col : ℕ) → row < 7 → inRow d row ≡ column col → (row < n) × (col < 32)) → setFits n d ≡ true
+unfolding setFits
 each-fits n d h = all-each (rowFits n d) 7 (λ row l. go row l (inRow d row) refl)
   where
     go : (row : ℕ) → row < 7 → (e : Dep) → inRow d row ≡ e → depFits n row e ≡ true
@@ -114,6 +119,7 @@ each-fits n d h = all-each (rowFits n d) 7 (λ row l. go row l (inRow d row) ref
     go row l (column col) e = rw (lt-ltb row n (h row col l e .0), lt-ltb col 32 (h row col l e .1))
 
 pub empty-fits : (n : ℕ) → setFits n emptySet ≡ true
+unfolding setFits
 empty-fits n = all-each (rowFits n emptySet) 7 (λ row l. rw (empty-number row))
 
 -- either of two numbers that fit a row
@@ -125,6 +131,7 @@ max-fits n row j k f g = go (leb j k) refl
     go false h = let e : max j k ≡ j = omega (arith, leb-false j k h) in rw e f
 
 pub union-fits : (n : ℕ) (a b : DepSet) → setFits n a ≡ true → setFits n b ≡ true → setFits n (unionOf a b) ≡ true
+unfolding setFits
 union-fits n a b f g =
     all-each (rowFits n (unionOf a b)) 7
     (λ row l. rw (union-number a b row) (max-fits n row (number a row) (number b row) (all-at (rowFits n a) 7 f row l) (all-at (rowFits n b) 7 g row l)))
@@ -133,13 +140,16 @@ union-fits n a b f g =
 
 -- its row, and no other
 pub raised-row : (d : DepSet) (row col : ℕ) → row < length (d .cols) → number (raisedTo d row col) row ≡ max (number d row) (suc col)
+unfolding raisedTo
 raised-row d row col l = getD-set-same (d .cols) row _ 0 l
 
 pub raised-other : (d : DepSet) (row col other : ℕ) → (other ≡ row → ⊥) → number (raisedTo d row col) other ≡ number d other
+unfolding raisedTo
 raised-other d row col other h = getD-set-other (d .cols) row other _ 0 h
 
 -- so every row is as it was, or raised
 raised-cases : (d : DepSet) (row col r : ℕ) → (number (raisedTo d row col) r ≡ number d r) ⊎ ((r ≡ row) × (number (raisedTo d row col) r ≡ max (number d r) (suc col)))
+unfolding raisedTo
 raised-cases d row col r = go (eqb r row) refl (ltb row (length (d .cols))) refl
   where
     go : (b : Bool) → eqb r row ≡ b → (i : Bool) → ltb row (length (d .cols)) ≡ i → (number (raisedTo d row col) r ≡ number d r) ⊎ ((r ≡ row) × (number (raisedTo d row col) r ≡ max (number d r) (suc col)))
@@ -151,6 +161,7 @@ pub raised-lowers-nothing : (d : DepSet) (row col : ℕ) → AtMost d (raisedTo 
 raised-lowers-nothing d row col r = ⊎-elim (λ e. omega (arith, e)) (λ e. omega (arith, e .1)) (raised-cases d row col r)
 
 pub raised-fits : (n : ℕ) (d : DepSet) (row col : ℕ) → row < n → col < 32 → setFits n d ≡ true → setFits n (raisedTo d row col) ≡ true
+unfolding setFits
 raised-fits n d row col l m h = all-each (rowFits n (raisedTo d row col)) 7 (λ r i. keep r (all-at (rowFits n d) 7 h r i) (raised-cases d row col r))
   where
     raised-ok : depFits n row (column col) ≡ true
@@ -162,6 +173,7 @@ raised-fits n d row col l m h = all-each (rowFits n (raisedTo d row col)) 7 (λ 
 
 -- twice to one column is once
 pub raised-twice : (d : DepSet) (row col : ℕ) → raisedTo (raisedTo d row col) row col ≡ raisedTo d row col
+unfolding raisedTo
 raised-twice d row col = go (ltb row (length (d .cols))) refl
   where
     go : (i : Bool) → ltb row (length (d .cols)) ≡ i → raisedTo (raisedTo d row col) row col ≡ raisedTo d row col
@@ -173,9 +185,11 @@ raised-twice d row col = go (ltb row (length (d .cols))) refl
 -- ---- equality of two sets
 
 pub same-sets : (a b : DepSet) → length (a .cols) ≡ 7 → length (b .cols) ≡ 7 → sameSet a b ≡ true → a ≡ b
+unfolding sameSet
 same-sets a b la lb h =
     ap setOf
     (ext-getD 0 (a .cols) (b .cols) (omega arith) (λ i l. eqb-true (number a i) (number b i) (all-at (sameRow a b) 7 h i (omega arith))))
 
 pub same-itself : (a : DepSet) → sameSet a a ≡ true
+unfolding sameSet
 same-itself a = all-each (sameRow a a) 7 (λ row l. eq-eqb (number a row) (number a row) refl)

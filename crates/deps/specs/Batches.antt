@@ -28,7 +28,7 @@ abbrev pub request : Batch → ℕ → Request
 request b i = getD (b .reqs) i noRequest
 
 -- one request more, where there is room
-abbrev pub withRequest : Batch → Request → Batch
+unfoldable pub withRequest : Batch → Request → Batch
 withRequest b q = cond (ltb (b .count) 4) (record { count = suc (b .count); reqs = set (b .reqs) (b .count) q }) b
 
 -- refusal 5: more than 4 requests, or the key of a put or get above 255

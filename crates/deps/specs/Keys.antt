@@ -31,12 +31,12 @@ abbrev pub joinKey : Keys → DepSet → ℕ → DepSet
 joinKey k d key = unionOf d (columnsOf k key)
 
 -- the union of the key columns of all puts and gets
-abbrev pub identifyOf : Keys → Batch → DepSet
+unfoldable pub identifyOf : Keys → Batch → DepSet
 identifyOf k b = foldl (joinKey k) emptySet (namedKeys b)
 
 abbrev pub raiseKey : ℕ → ℕ → Keys → ℕ → Keys
 raiseKey row col k key = keysOf (set (k .cols) key (raisedTo (columnsOf k key) row col .cols))
 
 -- the slot's row raised to its column for each put key
-abbrev pub refreshedBy : Keys → ℕ → ℕ → Batch → Keys
+unfoldable pub refreshedBy : Keys → ℕ → ℕ → Batch → Keys
 refreshedBy k row col b = foldl (raiseKey row col) k (putKeys b)

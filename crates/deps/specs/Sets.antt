@@ -37,7 +37,7 @@ depFits n row (column c) = ltb row n && ltb c 32
 abbrev pub rowFits : ℕ → DepSet → ℕ → Bool
 rowFits n d row = depFits n row (inRow d row)
 
-abbrev pub setFits : ℕ → DepSet → Bool
+unfoldable pub setFits : ℕ → DepSet → Bool
 setFits n d = allBelow 7 (rowFits n d)
 
 -- the greater column, or the only one
@@ -52,17 +52,17 @@ greaterEach [] ys = ys
 greaterEach (x ∷ xs) [] = x ∷ xs
 greaterEach (x ∷ xs) (y ∷ ys) = max x y ∷ greaterEach xs ys
 
-abbrev pub unionOf : DepSet → DepSet → DepSet
+unfoldable pub unionOf : DepSet → DepSet → DepSet
 unionOf a b = setOf (greaterEach (a .cols) (b .cols))
 
 -- the row raised to at least the column
-abbrev pub raisedTo : DepSet → ℕ → ℕ → DepSet
+unfoldable pub raisedTo : DepSet → ℕ → ℕ → DepSet
 raisedTo d row col = setOf (set (d .cols) row (max (number d row) (suc col)))
 
 abbrev pub sameRow : DepSet → DepSet → ℕ → Bool
 sameRow a b row = eqb (number a row) (number b row)
 
-abbrev pub sameSet : DepSet → DepSet → Bool
+unfoldable pub sameSet : DepSet → DepSet → Bool
 sameSet a b = allBelow 7 (sameRow a b)
 
 -- in no row more than the other has

@@ -1,10 +1,10 @@
+-- `deps::keys::columns` meets its contract: inside the 256 keys the array's own, outside none.
 use mathlib.Core.Path.{ap, sym}
-use mathlib.Core.List.{List, []}
-use Prim.Native.Nat.{ℕ}
+use mathlib.Core.List.{[]}
 use native.Mathlib.Omega.{arith}
 use lib.ListN.{replicate, List·getD-eq-default}
 use Rattle.deps.specs.Sets.{setOf}
-use Rattle.deps.proofs.KeyLaws.{inside}
+use Rattle.deps.proofs.Lists.{inside}
 use borrow.Author.Needs.{needs}
 use Rattle.deps.proofs.keys.columns.Statement.{statement}
 use Rattle.deps.proofs.keys.columns.Tie as tie

@@ -1,7 +1,7 @@
+-- `deps::keys::enter` meets its contract: one case for each kind; only a put raises.
 use mathlib.Core.Path.{ap, sym, _∙_}
-use mathlib.Core.List.{List}
+use mathlib.Core.List.{List, foldl}
 use Prim.Native.Nat.{ℕ}
-use mathlib.Core.List.{foldl}
 use Rattle.deps.specs.Batches.{entered}
 use Rattle.deps.specs.Keys.{keysOf, raiseKey}
 use Rattle.deps.specs.declared.batches.Kind.{Kind}

@@ -1,3 +1,4 @@
+-- `deps::keys::raise` meets its contract: one key's columns stored anew; a key above 255 changes nothing.
 use mathlib.Core.Path.{ap, sym}
 use native.Mathlib.Omega.{arith}
 use lib.Seq.{set-out}

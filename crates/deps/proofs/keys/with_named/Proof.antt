@@ -1,3 +1,4 @@
+-- `deps::keys::with_named` meets its contract: one case for each kind; a put and a get join the same columns.
 use mathlib.Core.Path.{ap, sym}
 use lib.ListN.{set}
 use mathlib.Core.List.{foldl}

@@ -1,3 +1,4 @@
+-- `deps::batches::Batch::fits` meets its contract: every request passed so far fits.
 use mathlib.Core.Path.{_≡_, sym, _∙_}
 use mathlib.Core.Bool.{true}
 use Prim.Native.Nat.{_≤_, _-_}

@@ -1,7 +1,9 @@
+-- `deps::batches::Batch::held` meets its contract: the count, or 4 where it is more.
 use mathlib.Core.Path.{_≡_}
 use native.Mathlib.Omega.{arith}
 use lib.ListN.{length}
-use Rattle.deps.proofs.BatchLaws.{length-mapped, held-number}
+use Rattle.deps.proofs.Lists.{length-mapped}
+use Rattle.deps.proofs.BatchLaws.{held-number}
 use borrow.Author.Needs.{needs}
 use Rattle.deps.proofs.batches.Batch.held.Statement.{statement}
 use Rattle.deps.proofs.batches.Batch.held.Tie as tie

@@ -1,3 +1,4 @@
+-- `deps::batches::Batch::same` meets its contract: every request passed so far is equal.
 use mathlib.Core.Path.{_≡_, sym, _∙_}
 use mathlib.Core.Bool.{true}
 use Prim.Native.Nat.{_≤_, _-_}
@@ -7,7 +8,8 @@ use borrow.Author.Tests.{eq-eqb, ne-eqb, not-true, not-false}
 use Rattle.deps.specs.Below.{allBelow}
 use Rattle.deps.specs.Batches.{present, sameAt, sameBatch}
 use Rattle.deps.proofs.Loops.{all-none, all-more, all-not}
-use Rattle.deps.proofs.BatchLaws.{length-mapped, held-number}
+use Rattle.deps.proofs.Lists.{length-mapped}
+use Rattle.deps.proofs.BatchLaws.{held-number}
 use borrow.Author.Needs.{needs}
 use Rattle.deps.proofs.batches.Batch.same.Statement.{statement}
 use Rattle.deps.proofs.batches.Batch.same.Tie as tie

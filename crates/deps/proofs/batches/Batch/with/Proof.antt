@@ -1,5 +1,7 @@
+-- `deps::batches::Batch::with` meets its contract: one more request, or a full batch as it was.
 use native.Mathlib.Numerals.{add-one}
 use borrow.Author.Tests.{lt-ltb, le-ltb}
+use Rattle.deps.specs.Batches.{withRequest}
 use borrow.Author.Needs.{needs}
 use Rattle.deps.proofs.batches.Batch.with.Statement.{statement}
 use Rattle.deps.proofs.batches.Batch.with.Tie as tie
@@ -14,9 +16,11 @@ add-out : tie.Need-add-out
 add-out c = search needs
 
 returns : tie.Need-returns
+unfolding withRequest
 returns c = simp (lt-ltb _ _ (c .if1 .taken), add-one)
 
 returns-2 : tie.Need-returns-2
+unfolding withRequest
 returns-2 c = simp (le-ltb _ _ (c .if1 .left))
 
 pub with-spec : {M : Type 1} → statement M

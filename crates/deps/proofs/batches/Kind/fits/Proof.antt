@@ -1,3 +1,4 @@
+-- `deps::batches::Kind::fits` meets its contract: one case for each kind.
 use mathlib.Core.Path.{ap, sym}
 use Rattle.deps.specs.Batches.{kindFits}
 use borrow.Author.Needs.{needs}

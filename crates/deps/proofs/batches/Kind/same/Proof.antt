@@ -1,3 +1,4 @@
+-- `deps::batches::Kind::same` meets its contract: one case for each pair of kinds.
 use mathlib.Core.Path.{_≡_, ap, sym, _∙_}
 use borrow.Author.Tests.{eq-eqb, ne-eqb}
 use Rattle.deps.specs.Batches.{sameKind}

@@ -1,3 +1,4 @@
+-- `deps::batches::Request::same` meets its contract: client, then id, then kind.
 use borrow.Author.Tests.{eq-eqb, ne-eqb}
 use Rattle.deps.specs.Batches.{sameRequest}
 use borrow.Author.Needs.{needs}

@@ -1,3 +1,4 @@
+-- `deps::keys::Keys::fits` meets its contract: every key passed so far fits.
 use mathlib.Core.Path.{_≡_, ap, sym, _∙_}
 use mathlib.Core.List.{List}
 use mathlib.Core.Bool.{true}

@@ -1,14 +1,15 @@
+-- `deps::keys::Keys::identify` meets its contract: joined so far: the keys named by the requests passed.
 use mathlib.Core.Path.{_≡_, ap, _∙_}
-use mathlib.Core.List.{List}
+use mathlib.Core.List.{List, foldl}
 use Prim.Native.Nat.{ℕ, _≤_, _-_}
 use native.Mathlib.Omega.{arith}
 use lib.ListN.{length}
-use mathlib.Core.List.{foldl}
 use Rattle.deps.specs.Sets.{emptySet}
 use Rattle.deps.specs.Batches.{noRequest, present, keyNamed, namedKeys}
-use Rattle.deps.specs.Keys.{keysOf, joinKey}
+use Rattle.deps.specs.Keys.{identifyOf, keysOf, joinKey}
 use Rattle.deps.proofs.Loops.{folded, fold-none, fold-more, fold-all}
-use Rattle.deps.proofs.BatchLaws.{length-mapped, held-number}
+use Rattle.deps.proofs.Lists.{length-mapped}
+use Rattle.deps.proofs.BatchLaws.{held-number}
 use borrow.Author.Needs.{needs}
 use Rattle.deps.proofs.keys.Keys.identify.Statement.{statement}
 use Rattle.deps.proofs.keys.Keys.identify.Tie as tie
@@ -55,6 +56,7 @@ loop-again c =
     (omega arith, omega arith, fold-more (joinKey k) keyNamed emptySet (b .reqs) (p .i) noRequest (omega arith) (p .inv .2) (c .with-named .ensures))
 
 returns : tie.Need-returns Inv-loop μ-loop
+unfolding identifyOf
 returns c =
     let b = c .before .before .before .before .args .t2 in
     let k = keysOf (c .before .before .before .rows .result) in

@@ -1,14 +1,15 @@
+-- `deps::keys::Keys::refresh` meets its contract: raised so far: the keys that the requests passed put.
 use mathlib.Core.Path.{_≡_, ap, _∙_}
-use mathlib.Core.List.{List}
+use mathlib.Core.List.{List, foldl}
 use Prim.Native.Nat.{ℕ, _≤_, _-_}
 use native.Mathlib.Omega.{arith}
 use lib.ListN.{length, getD}
-use mathlib.Core.List.{foldl}
 use Rattle.deps.specs.Batches.{noRequest, present, keyEntered, putKeys}
-use Rattle.deps.specs.Keys.{keysOf, raiseKey}
+use Rattle.deps.specs.Keys.{refreshedBy, keysOf, raiseKey}
 use Rattle.deps.specs.declared.keys.Keys.{Keys}
 use Rattle.deps.proofs.Loops.{folded, fold-none, fold-more, fold-all}
-use Rattle.deps.proofs.BatchLaws.{length-mapped, held-number}
+use Rattle.deps.proofs.Lists.{length-mapped}
+use Rattle.deps.proofs.BatchLaws.{held-number}
 use Rattle.deps.proofs.KeyLaws.{length-raise}
 use borrow.Author.Needs.{needs}
 use Rattle.deps.proofs.keys.Keys.refresh.Statement.{statement}
@@ -62,6 +63,7 @@ of-requires : tie.Need-of-requires Inv-loop μ-loop
 of-requires c κs = search needs
 
 returns : tie.Need-returns Inv-loop μ-loop
+unfolding refreshedBy
 returns c =
     let a = c .before .before .before .before .before .args in
     let b = a .t4 in

@@ -1,10 +1,11 @@
+-- `deps::sets::DepSet::fits` meets its contract: every row passed so far fits.
 use mathlib.Core.Path.{_≡_, sym, _∙_}
 use mathlib.Core.Bool.{true}
 use Prim.Native.Nat.{_≤_, _-_}
 use native.Mathlib.Omega.{arith}
 use borrow.Author.Tests.{not-true, not-false}
 use Rattle.deps.specs.Below.{allBelow}
-use Rattle.deps.specs.Sets.{rowFits}
+use Rattle.deps.specs.Sets.{setFits, rowFits}
 use Rattle.deps.proofs.Loops.{all-none, all-more, all-not}
 use borrow.Author.Needs.{needs}
 use Rattle.deps.proofs.sets.DepSet.fits.Statement.{statement}
@@ -26,6 +27,7 @@ dep-fits-requires : tie.Need-dep-fits-requires Inv-loop μ-loop
 dep-fits-requires c κs = search needs
 
 returns : tie.Need-returns Inv-loop μ-loop
+unfolding setFits
 returns c =
     let a = c .before .before .before .before .before .args in
     sym (all-not (rowFits (a .n) (a .t1)) 7 _ (c .before .before .before .loop-test .taken) (sym (c .before .dep-fits .ensures) ∙ not-true _ (c .if1 .taken)))
@@ -40,6 +42,7 @@ loop-again : tie.Need-loop-again Inv-loop μ-loop
 loop-again c = (search needs, all-more _ _ (c .before .before .before .before .loop .inv .1) (sym (c .before .dep-fits .ensures) ∙ not-false _ (c .if1 .left)))
 
 returns-2 : tie.Need-returns-2 Inv-loop μ-loop
+unfolding setFits
 returns-2 c =
     let e : c .before .loop .row ≡ 7 = omega arith in
     sym (rw e at (c .before .loop .inv .1))

@@ -1,11 +1,10 @@
+-- `deps::sets::DepSet::raised` meets its contract: one row stored; a row of 7 or more changes nothing.
 use mathlib.Core.Path.{_≡_, ap, sym}
-use mathlib.Core.List.{List}
-use Prim.Native.Nat.{ℕ}
 use native.Mathlib.Omega.{arith}
 use native.Mathlib.Numerals.{add-one}
 use lib.ListN.{length}
 use lib.Seq.{set-out}
-use Rattle.deps.specs.Sets.{setOf}
+use Rattle.deps.specs.Sets.{raisedTo, setOf}
 use borrow.Author.Needs.{needs}
 use Rattle.deps.proofs.sets.DepSet.raised.Statement.{statement}
 use Rattle.deps.proofs.sets.DepSet.raised.Tie as tie
@@ -26,9 +25,11 @@ element-write-out : tie.Need-element-write-out
 element-write-out c = search needs
 
 returns : tie.Need-returns
+unfolding raisedTo
 returns c = rw (c .greater .ensures, add-one)
 
 returns-2 : tie.Need-returns-2
+unfolding raisedTo
 returns-2 c =
     let s = c .before .args .self .cols in
     let ls : length s ≡ 7 = search needs in

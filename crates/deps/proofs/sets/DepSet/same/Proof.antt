@@ -1,10 +1,11 @@
+-- `deps::sets::DepSet::same` meets its contract: every row passed so far is equal.
 use mathlib.Core.Path.{_≡_, sym}
 use mathlib.Core.Bool.{true}
 use Prim.Native.Nat.{_≤_, _-_}
 use native.Mathlib.Omega.{arith}
 use borrow.Author.Tests.{eq-eqb, ne-eqb}
 use Rattle.deps.specs.Below.{allBelow}
-use Rattle.deps.specs.Sets.{sameRow}
+use Rattle.deps.specs.Sets.{sameSet, sameRow}
 use Rattle.deps.proofs.Loops.{all-none, all-more, all-not}
 use borrow.Author.Needs.{needs}
 use Rattle.deps.proofs.sets.DepSet.same.Statement.{statement}
@@ -26,6 +27,7 @@ element-copy-out-if1-2 : tie.Need-element-copy-out-if1-2 Inv-loop μ-loop
 element-copy-out-if1-2 c = search needs
 
 returns : tie.Need-returns Inv-loop μ-loop
+unfolding sameSet
 returns c =
     let a = c .before .before .before .before .before .args in
     sym (all-not (sameRow (a .t1) (a .t2)) 7 _ (c .before .before .before .loop-test .taken) (ne-eqb _ _ (c .if1 .taken)))
@@ -40,6 +42,7 @@ loop-again : tie.Need-loop-again Inv-loop μ-loop
 loop-again c = (search needs, all-more _ _ (c .before .before .before .before .loop .inv .1) (eq-eqb _ _ (c .if1 .left)))
 
 returns-2 : tie.Need-returns-2 Inv-loop μ-loop
+unfolding sameSet
 returns-2 c =
     let e : c .before .loop .row ≡ 7 = omega arith in
     sym (rw e at (c .before .loop .inv .1))

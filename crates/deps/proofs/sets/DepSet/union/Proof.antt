@@ -1,9 +1,9 @@
+-- `deps::sets::DepSet::union` meets its contract: the rows passed so far are the union's, the others still its own.
 use mathlib.Core.Path.{_≡_, ap, _∙_}
-use mathlib.Core.List.{List}
-use Prim.Native.Nat.{ℕ, _≤_, _-_}
+use Prim.Native.Nat.{_≤_, _-_}
 use native.Mathlib.Omega.{arith}
 use lib.ListN.{length, getD}
-use Rattle.deps.specs.Sets.{setOf, greaterEach}
+use Rattle.deps.specs.Sets.{unionOf, setOf, greaterEach}
 use Rattle.deps.proofs.Loops.{mix, mix-more, mix-next, mix-all}
 use Rattle.deps.proofs.SetLaws.{length-greater, greater-at}
 use borrow.Author.Needs.{needs}
@@ -11,7 +11,7 @@ use Rattle.deps.proofs.sets.DepSet.union.Statement.{statement}
 use Rattle.deps.proofs.sets.DepSet.union.Tie as tie
 
 abbrev Inv-loop : tie.InvT-loop
-Inv-loop other out₀ row₀ out row = (row ≤ 7) × (out .cols ≡ mix row (greaterEach (out₀ .cols) (other .cols)) (out₀ .cols))
+Inv-loop other out₀ row₀ out row = (row ≤ 7) × (out .cols ≡ mix (greaterEach (out₀ .cols) (other .cols)) (out₀ .cols) row)
 
 abbrev μ-loop : tie.MeasureT-loop
 μ-loop other out₀ row₀ out row = 7 - row
@@ -47,17 +47,18 @@ loop-again c =
     let lo : length o ≡ 7 = search needs in
     let lz : length (greaterEach s o) ≡ length s = omega (arith, length-greater s o) in
     let inv = c .before .before .before .before .loop .inv .1 in
-    let v : c .greater .result ≡ getD (greaterEach s o) i 0 = c .greater .ensures ∙ rw (inv, mix-next i (greaterEach s o) s 0 lz, greater-at s o i) in
-    (omega arith, rw (inv, v, mix-more i (greaterEach s o) s 0 (omega arith) lz))
+    let v : c .greater .result ≡ getD (greaterEach s o) i 0 = c .greater .ensures ∙ rw (inv, mix-next (greaterEach s o) s lz i 0 (omega arith), greater-at s o i) in
+    (omega arith, rw (inv, v, mix-more (greaterEach s o) s lz i 0 (omega arith)))
 
 returns : tie.Need-returns Inv-loop μ-loop
+unfolding unionOf
 returns c =
     let a = c .before .before .args in
     let s = a .self .cols in
     let o = a .t2 .cols in
     let ls : length s ≡ 7 = search needs in
     let lo : length o ≡ 7 = search needs in
-    ap setOf (c .before .loop .inv .1 ∙ mix-all (c .before .loop .row) (greaterEach s o) s (omega arith) (omega (arith, length-greater s o)))
+    ap setOf (c .before .loop .inv .1 ∙ mix-all (greaterEach s o) s (omega (arith, length-greater s o)) (c .before .loop .row) (omega arith))
 
 pub union-spec : {M : Type 1} → statement M
 union-spec =

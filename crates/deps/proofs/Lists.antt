@@ -1,0 +1,26 @@
+-- Facts on lists: lengths, elements, folds.
+use mathlib.Core.Path.{_≡_, refl, sym, _∙_}
+use mathlib.Core.List.{List, [], _∷_, map, foldl}
+use Prim.Native.Nat.{ℕ, suc, zero, _<_}
+use native.Mathlib.Omega.{arith}
+use lib.ListN.{length, getD, replicate, length-map}
+
+-- an array of structs is as long as the list of what its relation says of them
+pub length-mapped : (X Y : Type 0) (f : X → Y) (l : List X) (n : ℕ) → length (map f l) ≡ n → length l ≡ n
+length-mapped X Y f l n e = sym (length-map l f) ∙ e
+
+-- inside a list the default does not show
+pub inside : {A : Type 0} (l : List A) (i : ℕ) (d e : A) → i < length l → getD l i d ≡ getD l i e
+inside [] i d e h = absurd (omega arith)
+inside (x ∷ l) zero d e h = refl
+inside (x ∷ l) (suc i) d e h = inside l i d e (omega arith)
+
+pub replicate-at : {A : Type 0} (n i : ℕ) (a : A) → getD (replicate n a) i a ≡ a
+replicate-at zero i a = refl
+replicate-at (suc n) zero a = refl
+replicate-at (suc n) (suc i) a = replicate-at n i a
+
+-- what every step of a fold keeps, the fold keeps
+pub fold-keeps : {S B : Type 0} (P : S → Type 0) (f : S → B → S) → ((s : S) (b : B) → P s → P (f s b)) → (l : List B) (s : S) → P s → P (foldl f s l)
+fold-keeps P f step [] s h = h
+fold-keeps P f step (b ∷ l) s h = fold-keeps P f step l (f s b) (step s b h)
