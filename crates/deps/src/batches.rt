@@ -4,6 +4,7 @@ ghost use mathlib.Core.List.{[], _∷_};
 ghost use lib.ListN.{length};
 ghost use Rattle.deps.specs.Batches.{batchOf, withRequest, present, kindFits, batchFits, sameKind, sameRequest, sameBatch};
 
+// A key is wider than its bound, so that one out of bounds can be held, and refused.
 pub enum Kind {
     Other,
     Put { key: u16, value: u64 },
@@ -64,6 +65,7 @@ impl Kind {
 }
 
 impl Request {
+    // No request: what stands past a batch's count.
     pub const NONE: Request = Request {
         client: 0,
         id: 0,
@@ -86,6 +88,7 @@ impl Request {
 }
 
 impl Batch {
+    // The empty batch.
     pub const NO_OP: Batch = Batch {
         count: 0,
         reqs: [Request::NONE; 4],

@@ -14,6 +14,7 @@ pub struct Keys {
 }
 
 impl Keys {
+    // An array of arrays as a field is walked by hand: of and rows are, and all else goes through them.
     pub fn of(cols: [[u8; 7]; 256]) -> Keys
         ensures { λ r. ⌜ r ≡ keysOf cols ⌝ }
     {
@@ -123,6 +124,7 @@ fn enter(cols: &mut [[u8; 7]; 256], row: usize, col: usize, kind: Kind)
     }
 }
 
+// The key's row raised to the column; a key above 255 has none to raise.
 fn raise(cols: &mut [[u8; 7]; 256], key: usize, row: usize, col: usize)
     requires { ⌜ length (now cols) ≡ 256 ⌝ }
     requires { ⌜ col < 32 ⌝ }

@@ -73,6 +73,7 @@ fn greater(a: u8, b: u8) -> u8
     if a < b { b } else { a }
 }
 
+// One row of a set: nothing, or a column below 32 in a row below n.
 fn dep_fits(number: u8, row: usize, n: usize) -> bool
     ensures { λ r. ⌜ r ≡ depFits n row (depOf number) ⌝ }
 {
