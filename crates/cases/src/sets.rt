@@ -6,7 +6,7 @@ use deps::batches::Request;
 use deps::keys::Keys;
 use deps::sets::DepSet;
 
-pub fn unions() {
+pub(crate) fn unions() {
     let a = DepSet {
         cols: [2, 0, 4, 0, 0, 0, 0],
     };
@@ -28,7 +28,7 @@ fn union(a: DepSet, b: DepSet) {
 }
 
 // What batches wait for after 0.1 put 5, 1.3 put 5, 0.2 put 7 and 2.0 got 5.
-pub fn identifies() {
+pub(crate) fn identifies() {
     let first = Keys::empty().refresh(0, 1, Batch::of(put(5)));
     let second = first.refresh(1, 3, Batch::of(put(5)));
     let third = second.refresh(0, 2, Batch::of(put(7)));

@@ -2,16 +2,16 @@
 use deps::sets::DepSet;
 use libc::STDOUT_FILENO;
 
-pub fn word(bytes: &[u8]) {
+pub(crate) fn word(bytes: &[u8]) {
     io::write_all(STDOUT_FILENO, bytes);
 }
 
-pub fn end_line() {
+pub(crate) fn end_line() {
     word(b"\n");
 }
 
 // The first three rows: the cases of this program have N = 3.
-pub fn set(d: DepSet) {
+pub(crate) fn set(d: DepSet) {
     word(b"[");
     dep(d.cols[0]);
     word(b",");

@@ -1,14 +1,15 @@
--- Laws of batches: what a batch holds, and what equal batches have in common.
+-- Laws of batches: what a batch holds, when it is within the bounds, and what equal batches have in common.
 use mathlib.Core.Path.{_≡_, refl, ap, sym, _∙_}
-use mathlib.Core.List.{List, [], _∷_, _++_}
-use mathlib.Core.Bool.{true, true≢false}
-use Prim.Native.Nat.{ℕ, _<_, min}
+use mathlib.Core.List.{List, [], _∷_, _++_, flatMap, List·Memᴰ, List·Memᴰ·head, List·Memᴰ·not-nil, List·Memᴰ·eq-of-singleton, List·Memᴰ·append-cases, Memᴰ·append-left, Memᴰ·append-right}
+use mathlib.Core.Logic.{⊎-elim}
+use mathlib.Core.Bool.{Bool, true, true≢false}
+use Prim.Native.Nat.{ℕ, suc, zero, _<_, _≤_, min}
 use native.Mathlib.Omega.{arith}
-use borrow.Author.Tests.{lt-ltb, eqb-true, eq-eqb}
+use borrow.Author.Tests.{lt-ltb, le-leb, leb-true, eqb-true, eq-eqb}
 use lib.Dec.{eqb}
 use lib.ListN.{length, getD, length-take}
 use lib.Seq.{take-append-seam, take-suc-set, getD-take, ext-getD}
-use Rattle.deps.specs.Batches.{noRequest, batchOf, present, request, withRequest, sameKind, sameRequest, sameAt, sameBatch}
+use Rattle.deps.specs.Batches.{noRequest, batchOf, present, request, withRequest, kindFits, requestFits, batchFits, named, keyNamed, namedKeys, sameKind, sameRequest, sameAt, sameBatch}
 use Rattle.deps.specs.declared.batches.Kind.{Kind}
 use Rattle.deps.specs.declared.batches.Kind.the-variants.{Other, Put, Get}
 use Rattle.deps.specs.declared.batches.Request.{Request}
@@ -26,6 +27,47 @@ batch-of-holds l = take-append-seam l _
 pub with-holds : (b : Batch) (q : Request) → length (b .reqs) ≡ 4 → b .count < 4 → present (withRequest b q) ≡ present b ++ (q ∷ [])
 unfolding withRequest
 with-holds b q l h = rw (lt-ltb (b .count) 4 h) (take-suc-set (b .reqs) (b .count) q (omega arith))
+
+-- ---- refusal 5 exactly when
+
+kind-fits-key : (kind : Kind) (key : ℕ) → kindFits kind ≡ true → List·Memᴰ key (named kind) → key ≤ 255
+kind-fits-key Other key h m = absurd (List·Memᴰ·not-nil m)
+kind-fits-key (Put k v) key h m = rw (List·Memᴰ·eq-of-singleton m) (leb-true k 255 h)
+kind-fits-key (Get k) key h m = rw (List·Memᴰ·eq-of-singleton m) (leb-true k 255 h)
+
+key-fits-kind : (kind : Kind) → ((key : ℕ) → List·Memᴰ key (named kind) → key ≤ 255) → kindFits kind ≡ true
+key-fits-kind Other h = refl
+key-fits-kind (Put k v) h = le-leb k 255 (h k (List·Memᴰ·head refl))
+key-fits-kind (Get k) h = le-leb k 255 (h k (List·Memᴰ·head refl))
+
+abbrev fitsAt : List Request → ℕ → Bool
+fitsAt l i = kindFits (getD l i noRequest .kind)
+
+fit-named : (l : List Request) (key : ℕ) → ((i : ℕ) → i < length l → fitsAt l i ≡ true) → List·Memᴰ key (flatMap keyNamed l) → key ≤ 255
+unfolding flatMap
+fit-named [] key h m = absurd (List·Memᴰ·not-nil m)
+fit-named (q ∷ l) key h m =
+    ⊎-elim
+    (λ (e : List·Memᴰ key (keyNamed q)). kind-fits-key (q .kind) key (h 0 (omega arith)) e)
+    (λ (e : List·Memᴰ key (flatMap keyNamed l)). fit-named l key (λ i lt. h (suc i) (omega arith)) e)
+    (List·Memᴰ·append-cases (keyNamed q) m)
+
+named-fit : (l : List Request) → ((key : ℕ) → List·Memᴰ key (flatMap keyNamed l) → key ≤ 255) → (i : ℕ) → i < length l → fitsAt l i ≡ true
+unfolding flatMap
+named-fit [] h i lt = absurd (omega arith)
+named-fit (q ∷ l) h zero lt = key-fits-kind (q .kind) (λ key m. h key (Memᴰ·append-left (flatMap keyNamed l) m))
+named-fit (q ∷ l) h (suc i) lt = named-fit l (λ key m. h key (Memᴰ·append-right (keyNamed q) m)) i (omega arith)
+
+pub batch-fits-each : (b : Batch) → length (b .reqs) ≡ 4 → batchFits b ≡ true → (b .count ≤ 4) × ((key : ℕ) → List·Memᴰ key (namedKeys b) → key ≤ 255)
+unfolding batchFits
+batch-fits-each b l h =
+    let s = both-true _ _ h in
+    (leb-true _ _ (s .0), λ key m. fit-named (present b) key (λ i lt. rw (getD-take (b .count) (b .reqs) i noRequest (omega (arith, held-number b l))) (all-at (requestFits b) _ (s .1) i (omega (arith, held-number b l)))) m)
+
+pub each-batch-fits : (b : Batch) → length (b .reqs) ≡ 4 → b .count ≤ 4 → ((key : ℕ) → List·Memᴰ key (namedKeys b) → key ≤ 255) → batchFits b ≡ true
+unfolding batchFits
+each-batch-fits b l n h =
+    rw (le-leb (b .count) 4 n, all-each (requestFits b) (b .count) (λ i lt. rw (← getD-take (b .count) (b .reqs) i noRequest lt) (named-fit (present b) h i (omega (arith, held-number b l)))))
 
 -- ---- equality: the tests say so exactly of equal kinds, requests, batches
 

@@ -1,6 +1,6 @@
 -- Laws of the key columns: identify is the least set above the columns of each key named; refresh raises one row of each put key, and nothing else.
 use mathlib.Core.Path.{_≡_, refl, ap, _∙_}
-use mathlib.Core.List.{List, [], _∷_, foldl, List·Memᴰ, List·Memᴰ·head, List·Memᴰ·tail, List·Memᴰ·cases-cons, List·Memᴰ·not-nil}
+use mathlib.Core.List.{List, [], _∷_, map, foldl, List·Memᴰ, List·Memᴰ·head, List·Memᴰ·tail, List·Memᴰ·cases-cons, List·Memᴰ·not-nil}
 use mathlib.Core.Logic.{_⊎_, inl, inr, ⊎-elim}
 use mathlib.Core.Bool.{Bool, true, false}
 use Prim.Native.Nat.{ℕ, _<_}
@@ -9,7 +9,7 @@ use borrow.Author.Tests.{ltb-true, ltb-false, eqb-true, eqb-false}
 use lib.Dec.{ltb, eqb}
 use lib.ListN.{length, replicate, length-set, List·getD-eq-default}
 use lib.Seq.{set-out, getD-set-same, getD-set-other}
-use Rattle.deps.specs.Sets.{setOf, number, emptySet, setFits, raisedTo, AtMost}
+use Rattle.deps.specs.Sets.{setOf, number, emptySet, setFits, unionOf, raisedTo, AtMost}
 use Rattle.deps.specs.Batches.{namedKeys, putKeys}
 use Rattle.deps.specs.Keys.{keysOf, emptyKeys, columnsOf, keyFits, keysFit, joinKey, identifyOf, raiseKey, refreshedBy}
 use Rattle.deps.specs.declared.sets.DepSet.{DepSet}
@@ -39,7 +39,16 @@ module _ (k : Keys) where
   least-above (q ∷ l) d e h each =
       least-above l (joinKey k d q) e (union-least d (columnsOf k q) e h (each q (List·Memᴰ·head refl))) (λ key m. each key (List·Memᴰ·tail m))
 
-  -- every key named, and nothing that they do not ask for
+  -- the union over the keys named
+  pub identify-union : (b : Batch) → identifyOf k b ≡ foldl unionOf emptySet (map (columnsOf k) (namedKeys b))
+  unfolding identifyOf
+  identify-union b = over (namedKeys b) emptySet
+    where
+      over : (l : List ℕ) (d : DepSet) → foldl (joinKey k) d l ≡ foldl unionOf d (map (columnsOf k) l)
+      over [] d = refl
+      over (key ∷ l) d = over l (joinKey k d key)
+
+  -- which has the columns of each, and nothing that they do not ask for
   pub identify-each : (b : Batch) (key : ℕ) → List·Memᴰ key (namedKeys b) → AtMost (columnsOf k key) (identifyOf k b)
   unfolding identifyOf
   identify-each b key m = above-each (namedKeys b) emptySet key m

@@ -148,11 +148,14 @@ unfolding raisedTo
 raised-other d row col other h = getD-set-other (d .cols) row other _ 0 h
 
 -- so every row is as it was, or raised
-raised-cases : (d : DepSet) (row col r : ℕ) → (number (raisedTo d row col) r ≡ number d r) ⊎ ((r ≡ row) × (number (raisedTo d row col) r ≡ max (number d r) (suc col)))
+abbrev KeptOrRaised : DepSet → ℕ → ℕ → ℕ → Type 0
+KeptOrRaised d row col r = (number (raisedTo d row col) r ≡ number d r) ⊎ ((r ≡ row) × (number (raisedTo d row col) r ≡ max (number d r) (suc col)))
+
+raised-cases : (d : DepSet) (row col r : ℕ) → KeptOrRaised d row col r
 unfolding raisedTo
 raised-cases d row col r = go (eqb r row) refl (ltb row (length (d .cols))) refl
   where
-    go : (b : Bool) → eqb r row ≡ b → (i : Bool) → ltb row (length (d .cols)) ≡ i → (number (raisedTo d row col) r ≡ number d r) ⊎ ((r ≡ row) × (number (raisedTo d row col) r ≡ max (number d r) (suc col)))
+    go : (b : Bool) → eqb r row ≡ b → (i : Bool) → ltb row (length (d .cols)) ≡ i → KeptOrRaised d row col r
     go false e i f = inl (raised-other d row col r (eqb-false r row e))
     go true e false f = inl (ap (λ (l : List ℕ). getD l r 0) (set-out (d .cols) row _ (ltb-false row _ f)))
     go true e true f = let q = eqb-true r row e in inr (q, rw q (raised-row d row col (ltb-true row _ f)))
@@ -167,7 +170,7 @@ raised-fits n d row col l m h = all-each (rowFits n (raisedTo d row col)) 7 (λ 
     raised-ok : depFits n row (column col) ≡ true
     raised-ok = rw (lt-ltb row n l, lt-ltb col 32 m)
 
-    keep : (r : ℕ) → depFits n r (inRow d r) ≡ true → (number (raisedTo d row col) r ≡ number d r) ⊎ ((r ≡ row) × (number (raisedTo d row col) r ≡ max (number d r) (suc col))) → depFits n r (inRow (raisedTo d row col) r) ≡ true
+    keep : (r : ℕ) → depFits n r (inRow d r) ≡ true → KeptOrRaised d row col r → depFits n r (inRow (raisedTo d row col) r) ≡ true
     keep r f (inl e) = rw e f
     keep r f (inr (q, e)) = rw e (max-fits n r (number d r) (suc col) f (rw q raised-ok))
 

@@ -31,7 +31,7 @@ request b i = getD (b .reqs) i noRequest
 unfoldable pub withRequest : Batch → Request → Batch
 withRequest b q = cond (ltb (b .count) 4) (record { count = suc (b .count); reqs = set (b .reqs) (b .count) q }) b
 
--- refusal 5: more than 4 requests, or the key of a put or get above 255
+-- within the bounds: at most 4 requests, no key of a put or get above 255; else refusal 5
 abbrev pub kindFits : Kind → Bool
 kindFits Other = true
 kindFits (Put key value) = leb key 255

@@ -29,7 +29,7 @@ inRow d row = depOf (number d row)
 abbrev pub emptySet : DepSet
 emptySet = setOf (replicate 7 0)
 
--- refusal 4: a dependency at column 32 or more, or in a row n or more
+-- within the bounds of n rows: no dependency at column 32 or more, none in a row n or more; else refusal 4
 abbrev pub depFits : ℕ → ℕ → Dep → Bool
 depFits n row nothing = true
 depFits n row (column c) = ltb row n && ltb c 32
