@@ -1,6 +1,6 @@
 -- How the cases write sets, requests and what went before.
 use mathlib.Core.List.{List, [], _∷_, _++_, map, foldl}
-use Prim.Native.Nat.{ℕ, zero, suc, _-_}
+use Prim.Native.Nat.{ℕ, suc, _-_}
 use lib.ListN.{length, replicate}
 use Rattle.deps.specs.Sets.{Dep, nothing, column, setOf}
 use Rattle.deps.specs.Batches.{batchOf}

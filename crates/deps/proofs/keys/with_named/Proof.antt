@@ -1,13 +1,17 @@
 -- `deps::keys::with_named` meets its contract: one case for each kind; a put and a get join the same columns.
 use mathlib.Core.Path.{ap, sym}
-use lib.ListN.{set}
-use mathlib.Core.List.{foldl}
+use mathlib.Core.List.{List, foldl}
+use Prim.Native.Nat.{ℕ}
 use Rattle.deps.specs.Batches.{named}
 use Rattle.deps.specs.Keys.{keysOf, joinKey}
+use Rattle.deps.specs.declared.sets.DepSet.{DepSet}
 use Rattle.deps.specs.declared.batches.Kind.{Kind}
 use borrow.Author.Needs.{needs}
 use Rattle.deps.proofs.keys.with_named.Statement.{statement}
 use Rattle.deps.proofs.keys.with_named.Tie as tie
+
+abbrev joining : DepSet → List (List ℕ) → Kind → DepSet
+joining set cols k = foldl (joinKey (keysOf cols)) set (named k)
 
 enum-told : tie.Need-enum-told
 enum-told c = search needs
@@ -42,12 +46,12 @@ returns c = search needs
 returns-2 : tie.Need-returns-2
 returns-2 c =
     let a = c .before .before .before .before .before .args in
-    rw (c .union .ensures, c .before .columns .ensures) (sym (ap (λ (k : Kind). foldl (joinKey (keysOf (a .cols .now))) (a .set) (named k)) (c .before .before .before .kind .given .1)))
+    rw (c .union .ensures, c .before .columns .ensures) (sym (ap (joining (a .set) (a .cols .now)) (c .before .before .before .kind .given .1)))
 
 returns-3 : tie.Need-returns-3
 returns-3 c =
     let a = c .before .before .before .before .before .args in
-    rw (c .union2 .ensures, c .before .columns2 .ensures) (sym (ap (λ (k : Kind). foldl (joinKey (keysOf (a .cols .now))) (a .set) (named k)) (c .before .before .before .kind2 .given .1)))
+    rw (c .union2 .ensures, c .before .columns2 .ensures) (sym (ap (joining (a .set) (a .cols .now)) (c .before .before .before .kind2 .given .1)))
 
 pub with-named-spec : {M : Type 1} → statement M
 with-named-spec =

@@ -1,4 +1,4 @@
--- `deps::sets::dep_fits` meets its contract: one row's number tested: 0 is nothing, c + 1 the column c.
+-- `deps::sets::dep_fits` meets its contract: of the number in one row, 0 is nothing and c + 1 the column c.
 use borrow.Author.Tests.{lt-ltb, le-ltb}
 use Rattle.deps.proofs.SetLaws.{dep-fits-number}
 use borrow.Author.Needs.{needs}

@@ -36,8 +36,8 @@ unfolding keysFit
 returns c =
     let a = c .before .before .before .before .before .before .before .args in
     let r = c .before .before .before .before .before .before .rows in
-    let no = ap (setFits (a .n)) (sym (c .before .before .columns .ensures)) ∙ sym (c .before .fits2 .ensures) ∙ not-true _ (c .if1 .taken) in
-    sym (ap (λ (l : List (List ℕ)). allBelow 256 (keyFits (a .n) (keysOf l))) (sym (r .ensures)) ∙ all-not (keyFits (a .n) (keysOf (r .result))) 256 _ (c .before .before .before .before .loop-test .taken) no)
+    let fails = ap (setFits (a .n)) (sym (c .before .before .columns .ensures)) ∙ sym (c .before .fits2 .ensures) ∙ not-true _ (c .if1 .taken) in
+    sym (ap (λ (l : List (List ℕ)). allBelow 256 (keyFits (a .n) (keysOf l))) (sym (r .ensures)) ∙ all-not (keyFits (a .n) (keysOf (r .result))) 256 _ (c .before .before .before .before .loop-test .taken) fails)
 
 add-key : tie.Need-add-key Inv-loop μ-loop
 add-key c = search needs

@@ -1,4 +1,4 @@
--- `deps::keys::Keys::identify` meets its contract: joined so far: the keys named by the requests passed.
+-- `deps::keys::Keys::identify` meets its contract: joined so far are the keys that the requests passed name.
 use mathlib.Core.Path.{_≡_, ap, _∙_}
 use mathlib.Core.List.{List, foldl}
 use Prim.Native.Nat.{ℕ, _≤_, _-_}

@@ -1,4 +1,4 @@
--- `deps::keys::Keys::refresh` meets its contract: raised so far: the keys that the requests passed put.
+-- `deps::keys::Keys::refresh` meets its contract: raised so far are the keys that the requests passed put.
 use mathlib.Core.Path.{_≡_, ap, _∙_}
 use mathlib.Core.List.{List, foldl}
 use Prim.Native.Nat.{ℕ, _≤_, _-_}
