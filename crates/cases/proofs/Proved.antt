@@ -1,10 +1,20 @@
 -- Every case holds, by computing.
 use mathlib.Core.Path.{refl}
 use mathlib.Core.List.{flatMap}
-use Rattle.deps.specs.Sets.{greaterEach, unionOf, raisedTo}
+use Rattle.base.specs.Below.{allBelow, countBelow, greatestBelow, listBelow}
+use Rattle.base.specs.Config.{configFits}
+use Rattle.base.specs.Marks.{countOf, marksFit}
+use Rattle.deps.specs.Sets.{setFits, greaterEach, unionOf, raisedTo, sameSet}
+use Rattle.deps.specs.Batches.{batchFits, sameRequest, sameBatch}
 use Rattle.deps.specs.Keys.{identifyOf, refreshedBy}
+use Rattle.decisions.specs.Contents.{sameContents, joinOf, entriesOf}
+use Rattle.decisions.specs.Holder.{lowestBelow, highestBelow}
+use Rattle.decisions.specs.Refusal.{partsFit, refusalOf}
+use Rattle.decisions.specs.Identical.{firstEnough, mostEquals}
+use Rattle.decisions.specs.Fast.{joinedBelow, goneCount, fastDecision, fastAnswer}
+use Rattle.decisions.specs.Recovery.{highestVote, suchVotes, groupBy, choiceBy, answerBy}
 use Rattle.cases.specs.Cases.{Claim, Every, cases}
 
 pub every-case : Every cases
-unfolding Claim Every cases unionOf greaterEach raisedTo identifyOf refreshedBy flatMap
-every-case = (refl, (refl, (refl, (refl, (refl, (refl, (refl, tt)))))))
+unfolding Claim Every cases unionOf greaterEach raisedTo identifyOf refreshedBy flatMap allBelow countBelow greatestBelow listBelow configFits countOf marksFit setFits sameSet batchFits sameRequest sameBatch sameContents joinOf entriesOf lowestBelow highestBelow partsFit refusalOf firstEnough mostEquals joinedBelow goneCount fastDecision fastAnswer highestVote suchVotes groupBy choiceBy answerBy
+every-case = (refl, (refl, (refl, (refl, (refl, (refl, (refl, (refl, (refl, (refl, (refl, (refl, (refl, (refl, (refl, (refl, (refl, (refl, (refl, (refl, (refl, (refl, (refl, tt)))))))))))))))))))))))

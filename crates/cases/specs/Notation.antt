@@ -1,10 +1,18 @@
--- How the cases write sets, requests and what went before.
+-- How the cases write sets, requests, what went before, replies and votes.
 use mathlib.Core.List.{List, [], _∷_, _++_, map, foldl}
+use mathlib.Core.Bool.{Bool, true, false}
 use Prim.Native.Nat.{ℕ, suc, _-_}
 use lib.ListN.{length, replicate}
 use Rattle.deps.specs.Sets.{Dep, nothing, column, setOf}
-use Rattle.deps.specs.Batches.{batchOf}
+use Rattle.deps.specs.Batches.{batchOf, noOp}
 use Rattle.deps.specs.Keys.{emptyKeys, refreshedBy}
+use Rattle.base.specs.declared.config.Config.{Config}
+use Rattle.base.specs.declared.status.Status.{Status}
+use Rattle.base.specs.declared.status.Status.the-variants.{Null}
+use Rattle.deps.specs.declared.batches.Batch.{Batch}
+use Rattle.decisions.specs.Contents.{contentsOf}
+use Rattle.decisions.specs.declared.contents.Contents.{Contents}
+use Rattle.decisions.specs.declared.recovery.Prepare.{Prepare}
 use Rattle.deps.specs.declared.sets.DepSet.{DepSet}
 use Rattle.deps.specs.declared.batches.Kind.the-variants.{Other, Put, Get}
 use Rattle.deps.specs.declared.batches.Request.{Request}
@@ -37,3 +45,66 @@ pub record Stored : Type 0 where
 -- the key columns after these slots, in turn
 abbrev pub keysAfter : List Stored → Keys
 keysAfter = foldl (λ (k : Keys) (s : Stored). refreshedBy k (s .row) (s .col) (batchOf (s .requests))) emptyKeys
+
+-- N, own 0, simple, super
+abbrev pub config : ℕ → ℕ → ℕ → Config
+config n simple sup = record { n = n; own = 0; simple = simple; sup = sup }
+
+-- seven by replica: those listed, from replica 0, and then this one
+abbrev pub seven : {A : Type 0} → A → List A → List A
+seven a l = l ++ replicate (7 - length l) a
+
+-- what a replica says: nothing, or a sequence, dependencies and, of a vote, its status and requests
+pub data Says : Type 0 where
+  nothing-said : Says
+  reply : ℕ → List Dep → Says
+  vote : Status → ℕ → List Dep → List Request → Says
+
+abbrev pub isSaid : Says → Bool
+isSaid nothing-said = false
+isSaid (reply seq deps) = true
+isSaid (vote status seq deps batch) = true
+
+abbrev pub statusIn : Says → Status
+statusIn nothing-said = Null
+statusIn (reply seq deps) = Null
+statusIn (vote status seq deps batch) = status
+
+abbrev pub seqIn : Says → ℕ
+seqIn nothing-said = 0
+seqIn (reply seq deps) = seq
+seqIn (vote status seq deps batch) = seq
+
+abbrev pub colsIn : Says → List ℕ
+colsIn nothing-said = replicate 7 0
+colsIn (reply seq deps) = rows deps .cols
+colsIn (vote status seq deps batch) = rows deps .cols
+
+abbrev pub batchIn : Says → Batch
+batchIn nothing-said = noOp
+batchIn (reply seq deps) = noOp
+batchIn (vote status seq deps batch) = batchOf batch
+
+-- the marks, sequences, dependency columns, statuses and batches of what is said
+abbrev pub marks : List Says → List Bool
+marks l = seven false (map isSaid l)
+
+abbrev pub seqs : List Says → List ℕ
+seqs l = seven 0 (map seqIn l)
+
+abbrev pub cols : List Says → List (List ℕ)
+cols l = seven (replicate 7 0) (map colsIn l)
+
+abbrev pub statuses : List Says → List Status
+statuses l = seven Null (map statusIn l)
+
+abbrev pub batches : List Says → List Batch
+batches l = seven noOp (map batchIn l)
+
+-- what is decided on: sequence, dependencies, requests
+abbrev pub contents : ℕ → List Dep → List Request → Contents
+contents seq deps batch = contentsOf seq (rows deps) (batchOf batch)
+
+-- a prepare of row 0 whose highest ballot is the default one
+abbrev pub atDefault : Prepare
+atDefault = record { row = 0; highest = 7; default = 7 }

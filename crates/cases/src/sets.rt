@@ -47,7 +47,7 @@ fn identify(what: &[u8], keys: Keys, batch: Batch) {
     text::end_line();
 }
 
-fn put(key: u16) -> Request {
+pub(crate) fn put(key: u16) -> Request {
     Request {
         client: 1,
         id: 1,

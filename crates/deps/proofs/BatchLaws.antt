@@ -14,7 +14,7 @@ use Rattle.deps.specs.declared.batches.Kind.{Kind}
 use Rattle.deps.specs.declared.batches.Kind.the-variants.{Other, Put, Get}
 use Rattle.deps.specs.declared.batches.Request.{Request}
 use Rattle.deps.specs.declared.batches.Batch.{Batch}
-use Rattle.deps.proofs.Loops.{all-at, all-each, both-true}
+use Rattle.base.proofs.Loops.{all-at, all-each, both-true}
 
 pub held-number : (b : Batch) → length (b .reqs) ≡ 4 → length (present b) ≡ min (b .count) 4
 held-number b l = rw (length-take, l)
@@ -117,16 +117,47 @@ same-batches a b la lb e =
       n,
       ext-getD noRequest (present a) (present b) (omega arith)
           (λ i h. getD-take (a .count) (a .reqs) i noRequest (omega arith)
-          ∙ same-requests _ _ (all-at (sameAt a b) _ (s .1) i h)
+          ∙ same-requests _ _ (all-at (sameAt a b) _ (s .1) i (omega arith))
           ∙ sym (getD-take (b .count) (b .reqs) i noRequest (omega arith))),
     )
 
 pub batches-same : (a b : Batch) → length (a .reqs) ≡ 4 → length (b .reqs) ≡ 4 → a .count ≡ b .count → present a ≡ present b → sameBatch a b ≡ true
 unfolding sameBatch
 batches-same a b la lb n e =
-    rw (eq-eqb (a .count) (b .count) n, all-each (sameAt a b) (length (present a)) (λ i h. rw (← at i h) (request-itself (request a i))))
+    rw (eq-eqb (a .count) (b .count) n, all-each (sameAt a b) (min (a .count) 4) (λ i h. rw (← at i (omega (arith, held-number a la))) (request-itself (request a i))))
   where
     at : (i : ℕ) → i < length (present a) → request a i ≡ request b i
     at i h =
         let ha = held-number a la in
         sym (getD-take (a .count) (a .reqs) i noRequest (omega arith)) ∙ ap (λ (l : List Request). getD l i noRequest) e ∙ getD-take (b .count) (b .reqs) i noRequest (omega arith)
+
+-- so they are equivalences, whatever the batches hold
+pub sym-requests : (p q : Request) → sameRequest p q ≡ true → sameRequest q p ≡ true
+sym-requests p q e = rw (same-requests p q e) (request-itself q)
+
+pub trans-requests : (p q r : Request) → sameRequest p q ≡ true → sameRequest q r ≡ true → sameRequest p r ≡ true
+trans-requests p q r e f = rw (same-requests p q e) f
+
+pub batch-itself : (a : Batch) → sameBatch a a ≡ true
+unfolding sameBatch
+batch-itself a = rw (eq-eqb (a .count) (a .count) refl, all-each (sameAt a a) (min (a .count) 4) (λ i h. request-itself (request a i)))
+
+pub sym-batches : (a b : Batch) → sameBatch a b ≡ true → sameBatch b a ≡ true
+unfolding sameBatch
+sym-batches a b e =
+    let s = both-true _ _ e in
+    let n : a .count ≡ b .count = eqb-true _ _ (s .0) in
+    rw (eq-eqb (b .count) (a .count) (sym n), all-each (sameAt b a) (min (b .count) 4) (λ i h. sym-requests _ _ (all-at (sameAt a b) _ (s .1) i (omega arith))))
+
+pub trans-batches : (a b d : Batch) → sameBatch a b ≡ true → sameBatch b d ≡ true → sameBatch a d ≡ true
+unfolding sameBatch
+trans-batches a b d e f =
+    let s = both-true _ _ e in
+    let t = both-true _ _ f in
+    let n : a .count ≡ b .count = eqb-true _ _ (s .0) in
+    let m : b .count ≡ d .count = eqb-true _ _ (t .0) in
+    rw (
+      eq-eqb (a .count) (d .count) (n ∙ m),
+      all-each (sameAt a d) (min (a .count) 4)
+          (λ i h. trans-requests (request a i) (request b i) (request d i) (all-at (sameAt a b) _ (s .1) i h) (all-at (sameAt b d) _ (t .1) i (omega arith))),
+    )

@@ -15,8 +15,8 @@ use Rattle.deps.specs.Keys.{keysOf, emptyKeys, columnsOf, keyFits, keysF
 use Rattle.deps.specs.declared.sets.DepSet.{DepSet}
 use Rattle.deps.specs.declared.batches.Batch.{Batch}
 use Rattle.deps.specs.declared.keys.Keys.{Keys}
-use Rattle.deps.proofs.Lists.{replicate-at, fold-keeps}
-use Rattle.deps.proofs.Loops.{all-at, all-each}
+use Rattle.base.proofs.Lists.{replicate-at, fold-keeps}
+use Rattle.base.proofs.Loops.{all-at, all-each}
 use Rattle.deps.proofs.SetLaws.{union-left, union-right, union-least, at-most-trans, empty-least, empty-fits, union-fits, raised-other, raised-lowers-nothing, raised-fits, raised-twice}
 
 -- ---- identify

@@ -11,8 +11,8 @@ use lib.ListN.{length, getD, set}
 use lib.Seq.{ext-getD, set-out, set-set, getD-set-same, getD-set-other}
 use Rattle.deps.specs.Sets.{Dep, nothing, column, depOf, setOf, number, inRow, emptySet, depFits, rowFits, setFits, greaterDep, greaterEach, unionOf, raisedTo, sameRow, sameSet, AtMost}
 use Rattle.deps.specs.declared.sets.DepSet.{DepSet}
-use Rattle.deps.proofs.Lists.{replicate-at}
-use Rattle.deps.proofs.Loops.{both-true, all-at, all-each}
+use Rattle.base.proofs.Lists.{replicate-at}
+use Rattle.base.proofs.Loops.{both-true, all-at, all-each}
 
 -- ---- union, row by row
 
@@ -196,3 +196,13 @@ same-sets a b la lb h =
 pub same-itself : (a : DepSet) → sameSet a a ≡ true
 unfolding sameSet
 same-itself a = all-each (sameRow a a) 7 (λ row l. eq-eqb (number a row) (number a row) refl)
+
+-- so it is an equivalence, whatever the lengths
+pub sym-sets : (a b : DepSet) → sameSet a b ≡ true → sameSet b a ≡ true
+unfolding sameSet
+sym-sets a b h = all-each (sameRow b a) 7 (λ row l. eq-eqb (number b row) (number a row) (sym (eqb-true (number a row) (number b row) (all-at (sameRow a b) 7 h row l))))
+
+pub trans-sets : (a b d : DepSet) → sameSet a b ≡ true → sameSet b d ≡ true → sameSet a d ≡ true
+unfolding sameSet
+trans-sets a b d h k =
+    all-each (sameRow a d) 7 (λ row l. eq-eqb (number a row) (number d row) (eqb-true (number a row) (number b row) (all-at (sameRow a b) 7 h row l) ∙ eqb-true (number b row) (number d row) (all-at (sameRow b d) 7 k row l)))

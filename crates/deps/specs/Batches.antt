@@ -2,9 +2,9 @@
 use mathlib.Core.List.{List, [], _∷_, _++_, flatMap}
 use mathlib.Core.Bool.{Bool, true, false, cond, _&&_}
 use lib.Dec.{ltb, leb, eqb}
-use Prim.Native.Nat.{ℕ, suc, _-_}
+use Prim.Native.Nat.{ℕ, suc, _-_, min}
 use lib.ListN.{length, take, replicate, getD, set}
-use Rattle.deps.specs.Below.{allBelow}
+use Rattle.base.specs.Below.{allBelow}
 use Rattle.deps.specs.declared.batches.Kind.{Kind}
 use Rattle.deps.specs.declared.batches.Kind.the-variants.{Other, Put, Get}
 use Rattle.deps.specs.declared.batches.Request.{Request}
@@ -61,9 +61,9 @@ sameRequest p q = eqb (p .client) (q .client) && (eqb (p .id) (q .id) && sameKin
 abbrev pub sameAt : Batch → Batch → ℕ → Bool
 sameAt a b i = sameRequest (request a i) (request b i)
 
--- equal batches: the count and the requests present
+-- equal batches: the count and the requests present, of which there are no more than 4
 unfoldable pub sameBatch : Batch → Batch → Bool
-sameBatch a b = eqb (a .count) (b .count) && allBelow (length (present a)) (sameAt a b)
+sameBatch a b = eqb (a .count) (b .count) && allBelow (min (a .count) 4) (sameAt a b)
 
 -- the key that a put or get names, and the one that a put enters
 abbrev pub named : Kind → List ℕ

@@ -3,7 +3,7 @@ use mathlib.Core.List.{List, foldl}
 use mathlib.Core.Bool.{Bool}
 use Prim.Native.Nat.{ℕ}
 use lib.ListN.{replicate, getD, set}
-use Rattle.deps.specs.Below.{allBelow}
+use Rattle.base.specs.Below.{allBelow}
 use Rattle.deps.specs.Sets.{setOf, emptySet, setFits, unionOf, raisedTo}
 use Rattle.deps.specs.Batches.{namedKeys, putKeys}
 use Rattle.deps.specs.declared.sets.DepSet.{DepSet}

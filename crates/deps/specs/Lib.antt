@@ -1,4 +1,3 @@
-pub mod Below
 pub mod Sets
 pub mod Batches
 pub mod Keys

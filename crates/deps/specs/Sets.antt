@@ -4,7 +4,7 @@ use mathlib.Core.Bool.{Bool, true, _&&_}
 use lib.Dec.{ltb, eqb}
 use Prim.Native.Nat.{ℕ, zero, suc, max, _≤_}
 use lib.ListN.{replicate, getD, set}
-use Rattle.deps.specs.Below.{allBelow}
+use Rattle.base.specs.Below.{allBelow}
 use Rattle.deps.specs.declared.sets.DepSet.{DepSet}
 
 pub data Dep : Type 0 where

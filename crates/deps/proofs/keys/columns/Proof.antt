@@ -4,7 +4,7 @@ use mathlib.Core.List.{[]}
 use native.Mathlib.Omega.{arith}
 use lib.ListN.{replicate, List·getD-eq-default}
 use Rattle.deps.specs.Sets.{setOf}
-use Rattle.deps.proofs.Lists.{inside}
+use Rattle.base.proofs.Lists.{inside}
 use borrow.Author.Needs.{needs}
 use Rattle.deps.proofs.keys.columns.Statement.{statement}
 use Rattle.deps.proofs.keys.columns.Tie as tie

@@ -4,9 +4,9 @@ use mathlib.Core.Bool.{true}
 use Prim.Native.Nat.{_≤_, _-_}
 use native.Mathlib.Omega.{arith}
 use borrow.Author.Tests.{le-leb, lt-leb, not-true, not-false}
-use Rattle.deps.specs.Below.{allBelow}
+use Rattle.base.specs.Below.{allBelow}
 use Rattle.deps.specs.Batches.{requestFits, batchFits}
-use Rattle.deps.proofs.Loops.{all-none, all-more, all-not}
+use Rattle.base.proofs.Loops.{all-none, all-more, all-not}
 use borrow.Author.Needs.{needs}
 use Rattle.deps.proofs.batches.Batch.fits.Statement.{statement}
 use Rattle.deps.proofs.batches.Batch.fits.Tie as tie

@@ -2,7 +2,7 @@
 use mathlib.Core.Path.{_≡_}
 use native.Mathlib.Omega.{arith}
 use lib.ListN.{length}
-use Rattle.deps.proofs.Lists.{length-mapped}
+use Rattle.base.proofs.Lists.{length-mapped}
 use Rattle.deps.proofs.BatchLaws.{held-number}
 use borrow.Author.Needs.{needs}
 use Rattle.deps.proofs.batches.Batch.held.Statement.{statement}

@@ -1,14 +1,14 @@
 -- `deps::batches::Batch::same` meets its contract: every request passed so far is equal.
 use mathlib.Core.Path.{_≡_, sym, _∙_}
 use mathlib.Core.Bool.{true}
-use Prim.Native.Nat.{_≤_, _-_}
+use Prim.Native.Nat.{_≤_, _-_, min}
 use native.Mathlib.Omega.{arith}
 use lib.ListN.{length}
 use borrow.Author.Tests.{eq-eqb, ne-eqb, not-true, not-false}
-use Rattle.deps.specs.Below.{allBelow}
-use Rattle.deps.specs.Batches.{present, sameAt, sameBatch}
-use Rattle.deps.proofs.Loops.{all-none, all-more, all-not}
-use Rattle.deps.proofs.Lists.{length-mapped}
+use Rattle.base.specs.Below.{allBelow}
+use Rattle.deps.specs.Batches.{sameAt, sameBatch}
+use Rattle.base.proofs.Loops.{all-none, all-more, all-not}
+use Rattle.base.proofs.Lists.{length-mapped}
 use Rattle.deps.proofs.BatchLaws.{held-number}
 use borrow.Author.Needs.{needs}
 use Rattle.deps.proofs.batches.Batch.same.Statement.{statement}
@@ -52,7 +52,8 @@ returns-2 : tie.Need-returns-2 Inv-loop μ-loop
 unfolding sameBatch
 returns-2 c =
     let a = c .before .before .before .before .before .before .before .before .args in
-    simp (eq-eqb _ _ (c .before .before .before .before .before .before .before .if1 .left), all-not (sameAt (a .t1) (a .t2)) (length (present (a .t1))) _ (omega (arith, c .before .before .before .before .before .before .held .ensures)) (sym (c .before .same .ensures) ∙ not-true _ (c .if2 .taken)))
+    let l : length (a .t1 .reqs) ≡ 4 = search (needs, length-mapped) in
+    simp (eq-eqb _ _ (c .before .before .before .before .before .before .before .if1 .left), all-not (sameAt (a .t1) (a .t2)) (min (a .t1 .count) 4) _ (omega (arith, held-number (a .t1) l, c .before .before .before .before .before .before .held .ensures)) (sym (c .before .same .ensures) ∙ not-true _ (c .if2 .taken)))
 
 add-i : tie.Need-add-i Inv-loop μ-loop
 add-i c = search needs
@@ -67,8 +68,9 @@ returns-3 : tie.Need-returns-3 Inv-loop μ-loop
 unfolding sameBatch
 returns-3 c =
     let a = c .before .before .before .before .args in
-    let e : c .before .loop .i ≡ length (present (a .t1)) = omega (arith, c .before .before .held .ensures) in
-    let h : allBelow (length (present (a .t1))) (sameAt (a .t1) (a .t2)) ≡ true = rw e at (c .before .loop .inv .2) in
+    let l : length (a .t1 .reqs) ≡ 4 = search (needs, length-mapped) in
+    let e : c .before .loop .i ≡ min (a .t1 .count) 4 = omega (arith, held-number (a .t1) l, c .before .before .held .ensures) in
+    let h : allBelow (min (a .t1 .count) 4) (sameAt (a .t1) (a .t2)) ≡ true = rw e at (c .before .loop .inv .2) in
     simp (eq-eqb _ _ (c .before .before .before .if1 .left), h)
 
 pub same-spec : {M : Type 1} → statement M

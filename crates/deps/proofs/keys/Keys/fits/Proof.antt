@@ -5,9 +5,9 @@ use mathlib.Core.Bool.{true}
 use Prim.Native.Nat.{ℕ, _≤_, _-_}
 use native.Mathlib.Omega.{arith}
 use borrow.Author.Tests.{not-true, not-false}
-use Rattle.deps.specs.Below.{allBelow}
+use Rattle.base.specs.Below.{allBelow}
 use Rattle.deps.specs.Keys.{keysOf, keyFits, keysFit}
-use Rattle.deps.proofs.Loops.{all-none, all-more, all-not}
+use Rattle.base.proofs.Loops.{all-none, all-more, all-not}
 use Rattle.deps.specs.Sets.{setFits}
 use borrow.Author.Needs.{needs}
 use Rattle.deps.proofs.keys.Keys.fits.Statement.{statement}

@@ -7,8 +7,8 @@ use lib.ListN.{length}
 use Rattle.deps.specs.Sets.{emptySet}
 use Rattle.deps.specs.Batches.{noRequest, present, keyNamed, namedKeys}
 use Rattle.deps.specs.Keys.{identifyOf, keysOf, joinKey}
-use Rattle.deps.proofs.Loops.{folded, fold-none, fold-more, fold-all}
-use Rattle.deps.proofs.Lists.{length-mapped}
+use Rattle.base.proofs.Loops.{folded, fold-none, fold-more, fold-all}
+use Rattle.base.proofs.Lists.{length-mapped}
 use Rattle.deps.proofs.BatchLaws.{held-number}
 use borrow.Author.Needs.{needs}
 use Rattle.deps.proofs.keys.Keys.identify.Statement.{statement}

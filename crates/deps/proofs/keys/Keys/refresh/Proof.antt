@@ -7,8 +7,8 @@ use lib.ListN.{length, getD}
 use Rattle.deps.specs.Batches.{noRequest, present, keyEntered, putKeys}
 use Rattle.deps.specs.Keys.{refreshedBy, keysOf, raiseKey}
 use Rattle.deps.specs.declared.keys.Keys.{Keys}
-use Rattle.deps.proofs.Loops.{folded, fold-none, fold-more, fold-all}
-use Rattle.deps.proofs.Lists.{length-mapped}
+use Rattle.base.proofs.Loops.{folded, fold-none, fold-more, fold-all}
+use Rattle.base.proofs.Lists.{length-mapped}
 use Rattle.deps.proofs.BatchLaws.{held-number}
 use Rattle.deps.proofs.KeyLaws.{length-raise}
 use borrow.Author.Needs.{needs}

@@ -4,9 +4,9 @@ use mathlib.Core.Bool.{true}
 use Prim.Native.Nat.{_≤_, _-_}
 use native.Mathlib.Omega.{arith}
 use borrow.Author.Tests.{eq-eqb, ne-eqb}
-use Rattle.deps.specs.Below.{allBelow}
+use Rattle.base.specs.Below.{allBelow}
 use Rattle.deps.specs.Sets.{sameSet, sameRow}
-use Rattle.deps.proofs.Loops.{all-none, all-more, all-not}
+use Rattle.base.proofs.Loops.{all-none, all-more, all-not}
 use borrow.Author.Needs.{needs}
 use Rattle.deps.proofs.sets.DepSet.same.Statement.{statement}
 use Rattle.deps.proofs.sets.DepSet.same.Tie as tie

@@ -4,7 +4,7 @@ use Prim.Native.Nat.{_≤_, _-_}
 use native.Mathlib.Omega.{arith}
 use lib.ListN.{length, getD}
 use Rattle.deps.specs.Sets.{unionOf, setOf, greaterEach}
-use Rattle.deps.proofs.Loops.{mix, mix-more, mix-next, mix-all}
+use Rattle.base.proofs.Loops.{mix, mix-more, mix-next, mix-all}
 use Rattle.deps.proofs.SetLaws.{length-greater, greater-at}
 use borrow.Author.Needs.{needs}
 use Rattle.deps.proofs.sets.DepSet.union.Statement.{statement}

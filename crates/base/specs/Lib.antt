@@ -1,0 +1,5 @@
+pub mod Below
+pub mod Refusals
+pub mod Config
+pub mod Status
+pub mod Marks

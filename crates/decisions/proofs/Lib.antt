@@ -1,0 +1,6 @@
+pub mod AnswerLaws
+pub mod HolderLaws
+pub mod RefusalLaws
+pub mod IdenticalLaws
+pub mod FastLaws
+pub mod RecoveryLaws

@@ -1,0 +1,7 @@
+pub mod Contents
+pub mod Answer
+pub mod Holder
+pub mod Refusal
+pub mod Identical
+pub mod Fast
+pub mod Recovery

@@ -1,0 +1,6 @@
+pub mod Laying
+pub mod NumberLaws
+pub mod EachLaws
+pub mod BatchLaws
+pub mod SevenLaws
+pub mod KnownLaws
