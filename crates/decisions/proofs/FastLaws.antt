@@ -13,14 +13,15 @@ use Rattle.base.specs.declared.config.Config.{Config}
 use Rattle.base.proofs.Loops.{both-true}
 use Rattle.base.proofs.MarkLaws.{marks-fit-each, two-counts}
 use Rattle.decisions.specs.Contents.{none, saidBy, joinOf}
-use Rattle.decisions.specs.Answer.{Decided, wait, committed, accepting}
+use Rattle.decisions.specs.Answer.{Decided, wait, committed, accepting, refused}
 use Rattle.decisions.specs.Holder.{lowestBelow, orElse}
+use Rattle.decisions.specs.Refusal.{bothFit, refusalOf}
 use Rattle.decisions.specs.Identical.{occurrences, hasEnough, firstEnough}
-use Rattle.decisions.specs.Fast.{joinedBelow, joined, goneAt, goneCount, possible, fastDecision}
+use Rattle.decisions.specs.Fast.{joinedBelow, joined, goneAt, goneCount, possible, fastDecision, repliesOf, fastAnswer}
 use Rattle.decisions.specs.declared.contents.Contents.{Contents}
 use Rattle.decisions.specs.declared.holder.Holder.{Holder}
 use Rattle.decisions.specs.declared.holder.Holder.the-variants.{Nobody, Replica}
-use Rattle.decisions.proofs.AnswerLaws.{wait-not-committed, wait-not-accepting, committed-not-accepting, same-committed, same-accepting}
+use Rattle.decisions.proofs.AnswerLaws.{apart, same-committed, same-accepting, refused-by}
 use Rattle.decisions.proofs.HolderLaws.{Lowest, lowest-is, is-lowest, lowest-nobody, all-fail-lowest}
 
 -- ---- the union of the dependencies and the greatest sequence, turn by turn
@@ -174,11 +175,11 @@ module _ (c : Config) (avoided : Bool) (replied : List Bool) (entries : List Con
   when-committed x e = go way
     where
       go : Way → Commits x
-      go (few l f) = wait-not-committed (sym f ∙ e)
-      go (avoids l a f) = committed-not-accepting (sym e ∙ f)
+      go (few l f) = apart (sym f ∙ e) refl
+      go (avoids l a f) = apart (sym e ∙ f) refl
       go (commits l a r w f) = record { heard = l; allowed = a; holder = r; first = w; words = same-committed (sym e ∙ f) }
-      go (slows l a n k f) = committed-not-accepting (sym e ∙ f)
-      go (waits l a n k f) = wait-not-committed (sym f ∙ e)
+      go (slows l a n k f) = apart (sym e ∙ f) refl
+      go (waits l a n k f) = apart (sym f ∙ e) refl
 
   -- one such replica is enough for there to be a lowest
   pub some-first : (r : ℕ) → r < 7 → Enough r → (q : ℕ) × FirstEnough q
@@ -206,11 +207,11 @@ module _ (c : Config) (avoided : Bool) (replied : List Bool) (entries : List Con
   when-accepting x e = go way
     where
       go : Way → Accepts × (x ≡ joined replied entries)
-      go (few l f) = wait-not-accepting (sym f ∙ e)
+      go (few l f) = apart (sym f ∙ e) refl
       go (avoids l a f) = ((l, inl a), same-accepting (sym e ∙ f))
-      go (commits l a r w f) = committed-not-accepting (sym f ∙ e)
+      go (commits l a r w f) = apart (sym f ∙ e) refl
       go (slows l a n k f) = ((l, inr (a, n, k)), same-accepting (sym e ∙ f))
-      go (waits l a n k f) = wait-not-accepting (sym f ∙ e)
+      go (waits l a n k f) = apart (sym f ∙ e) refl
 
   -- Wait exactly when too few have acked, or no words occur often enough and some still could
   abbrev pub Waits : Type 0
@@ -228,7 +229,25 @@ module _ (c : Config) (avoided : Bool) (replied : List Bool) (entries : List Con
     where
       go : Way → Waits
       go (few l f) = inl l
-      go (avoids l a f) = wait-not-accepting (sym e ∙ f)
-      go (commits l a r w f) = wait-not-committed (sym e ∙ f)
-      go (slows l a n k f) = wait-not-accepting (sym e ∙ f)
+      go (avoids l a f) = apart (sym e ∙ f) refl
+      go (commits l a r w f) = apart (sym e ∙ f) refl
+      go (slows l a n k f) = apart (sym e ∙ f) refl
       go (waits l a n k f) = inr (l, a, n, k)
+
+  -- it is never itself a refusal
+  never-refuses : (j : ℕ) → answer ≡ refused j → ⊥
+  never-refuses j e = go way
+    where
+      go : Way → ⊥
+      go (few l f) = apart (sym f ∙ e) refl
+      go (avoids l a f) = apart (sym f ∙ e) refl
+      go (commits l a r w f) = apart (sym f ∙ e) refl
+      go (slows l a n k f) = apart (sym f ∙ e) refl
+      go (waits l a n k f) = apart (sym f ∙ e) refl
+
+-- so the entry refuses exactly by the number of the refusal
+pub fast-refused : (c : Config) (avoided : Bool) (replied : List Bool) (seqs : List ℕ) (deps : List (List ℕ)) (silent : List Bool) (m : ℕ)
+    → fastAnswer c avoided replied seqs deps silent ≡ refused m
+    → (0 < refusalOf c (bothFit (c .n) replied silent) replied (repliesOf seqs deps)) × (refusalOf c (bothFit (c .n) replied silent) replied (repliesOf seqs deps) ≡ m)
+unfolding fastAnswer
+fast-refused c avoided replied seqs deps silent m e = refused-by _ _ m (never-refuses c avoided replied (repliesOf seqs deps) silent) e

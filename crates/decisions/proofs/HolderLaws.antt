@@ -200,3 +200,8 @@ decides-as entries step decide f h d g next r e p q = e ∙ rw (p, q) (go h)
     go : (x : Holder) → decidedBy x entries step (decisionOf d) ≡ decisionOf (orElse x entries decide d)
     go Nobody = refl
     go (Replica k) = sym (f (saidBy entries k))
+
+-- what every decision of a holder and the next one have
+pub or-else-has : (P : Decided → Type 0) (h : Holder) (entries : List Contents) (decide : Contents → Decided) (next : Decided) → ((c : Contents) → P (decide c)) → P next → P (orElse h entries decide next)
+or-else-has P Nobody entries decide next f p = p
+or-else-has P (Replica r) entries decide next f p = f (saidBy entries r)

@@ -1,7 +1,7 @@
 -- The recovery choice: who decides, and how the two rules differ.
 use mathlib.Core.Path.{_≡_, refl, ap, sym, _∙_}
 use mathlib.Core.List.{List}
-use mathlib.Core.Bool.{Bool, true, false, cond}
+use mathlib.Core.Bool.{Bool, true, false, cond, true≢false}
 use Prim.Native.Nat.{ℕ, _<_, _≤_}
 use lib.Dec.{ltb, leb, eqb}
 use borrow.Author.Tests.{lt-ltb, le-ltb, le-leb, lt-leb, eq-eqb, ne-eqb, eqb-true, leb-true, ltb-true, ltb-false}
@@ -12,19 +12,21 @@ use Rattle.base.specs.declared.config.Config.{Config}
 use Rattle.base.specs.declared.status.Status.{Status}
 use Rattle.base.specs.declared.status.Status.the-variants as status
 use Rattle.decisions.specs.Contents.{saidBy, noOpContents}
-use Rattle.decisions.specs.Answer.{Decided, wait, committed, accepting, preAccepting}
+use Rattle.decisions.specs.Answer.{Decided, wait, committed, accepting, preAccepting, refused}
 use Rattle.decisions.specs.Holder.{Inside, orElse}
+use Rattle.decisions.specs.Refusal.{refusalOf}
 use Rattle.decisions.specs.Identical.{occurrences, hasEnough, firstEnough}
-use Rattle.decisions.specs.Recovery.{voteAt, highestVote, suchVotes, countsOf, groupBy, choiceBy, answerBy}
+use Rattle.decisions.specs.Recovery.{voteAt, highestVote, suchVotes, countsOf, groupBy, choiceBy, namedFit, answerBy}
 use Rattle.decisions.specs.declared.contents.Contents.{Contents}
 use Rattle.decisions.specs.declared.holder.Holder.{Holder}
 use Rattle.decisions.specs.declared.holder.Holder.the-variants.{Nobody, Replica}
+use Rattle.decisions.specs.declared.recovery.Rule.{Rule}
 use Rattle.decisions.specs.declared.recovery.Rule.the-variants.{Rust, Paper}
 use Rattle.decisions.specs.declared.recovery.Prepare.{Prepare}
 use Rattle.decisions.specs.declared.recovery.Counts.{Counts}
-use Rattle.decisions.proofs.HolderLaws.{Lowest, lowest-is, is-lowest, Highest, is-highest, all-fail-highest, highest-inside, nobody-is-none}
+use Rattle.decisions.proofs.HolderLaws.{Lowest, lowest-is, is-lowest, Highest, is-highest, all-fail-highest, highest-inside, nobody-is-none, or-else-has}
 use Rattle.decisions.proofs.IdenticalLaws.{first-inside, at-most-listed}
-use Rattle.decisions.proofs.AnswerLaws.{wait-not-committed, wait-not-accepting, wait-not-pre-accepting}
+use Rattle.decisions.proofs.AnswerLaws.{goesOn, apart, refused-by}
 
 pub vote-inside : (wanted : Status) (voted : List Bool) (statuses : List Status) → Inside (highestVote wanted voted statuses)
 unfolding highestVote
@@ -87,6 +89,9 @@ module _ (k : Counts) (p : Prepare) (voted : List Bool) (statuses : List Status)
       omega (arith, leb-true (k .identical) (occurrences entries such r) (s .1), at-most-listed entries such r)
 
 -- ---- the choice
+
+abbrev GoesOn : Decided → Type 0
+GoesOn d = goesOn d ≡ true
 
 module _ (k : Counts) (c : Config) (p : Prepare) (acks voted : List Bool) (statuses : List Status) (entries : List Contents) where
   abbrev pub choice : Decided
@@ -154,29 +159,35 @@ module _ (k : Counts) (c : Config) (p : Prepare) (acks voted : List Bool) (statu
   pub choice-no-op : c .simple ≤ countOf acks → None status.Committed → None status.Accepting → groupBy k p voted statuses entries ≡ Nobody → None status.PreAccepting → choice ≡ preAccepting noOpContents
   choice-no-op h n m g q = past-group h n m g ∙ ap (λ (x : Holder). orElse x entries preAccepting (preAccepting noOpContents)) (no-voter status.PreAccepting q)
 
-  -- it waits exactly when too few have acked
-  pub choice-waits : choice ≡ wait → countOf acks < c .simple
-  choice-waits e = go (ltb (countOf acks) (c .simple)) refl
+  -- it waits exactly when too few have acked, and is never itself a refusal
+
+  choice-goes-on : c .simple ≤ countOf acks → goesOn choice ≡ true
+  choice-goes-on h =
+      rw (choice-open h)
+      (or-else-has GoesOn (vote status.Committed) entries committed accepted (λ x. refl)
+      (or-else-has GoesOn (vote status.Accepting) entries accepting grouped (λ x. refl)
+      (or-else-has GoesOn (groupBy k p voted statuses entries) entries accepting startOver (λ x. refl)
+      (or-else-has GoesOn (vote status.PreAccepting) entries preAccepting (preAccepting noOpContents) (λ x. refl) refl))))
+
+  few-or-goes-on : (P : Type 0) → (countOf acks < c .simple → P) → (goesOn choice ≡ true → P) → P
+  few-or-goes-on P f g = go (ltb (countOf acks) (c .simple)) refl
     where
-      start : (x : Holder) → orElse x entries preAccepting (preAccepting noOpContents) ≡ wait → ⊥
-      start Nobody f = wait-not-pre-accepting (sym f)
-      start (Replica r) f = wait-not-pre-accepting (sym f)
+      go : (b : Bool) → ltb (countOf acks) (c .simple) ≡ b → P
+      go true e = f (ltb-true (countOf acks) (c .simple) e)
+      go false e = g (choice-goes-on (ltb-false (countOf acks) (c .simple) e))
 
-      group : (x y : Holder) → orElse x entries accepting (orElse y entries preAccepting (preAccepting noOpContents)) ≡ wait → ⊥
-      group Nobody y f = start y f
-      group (Replica r) y f = wait-not-accepting (sym f)
+  pub choice-waits : choice ≡ wait → countOf acks < c .simple
+  choice-waits e = few-or-goes-on (countOf acks < c .simple) (λ l. l) (λ g. absurd (true≢false (sym g ∙ ap goesOn e)))
 
-      accept : (w x y : Holder) → orElse w entries accepting (orElse x entries accepting (orElse y entries preAccepting (preAccepting noOpContents))) ≡ wait → ⊥
-      accept Nobody x y f = group x y f
-      accept (Replica r) x y f = wait-not-accepting (sym f)
+  choice-never-refuses : (j : ℕ) → choice ≡ refused j → ⊥
+  choice-never-refuses j e = few-or-goes-on ⊥ (λ l. apart (sym (choice-few l) ∙ e) refl) (λ g. true≢false (sym g ∙ ap goesOn e))
 
-      commit : (v w x y : Holder) → orElse v entries committed (orElse w entries accepting (orElse x entries accepting (orElse y entries preAccepting (preAccepting noOpContents)))) ≡ wait → ⊥
-      commit Nobody w x y f = accept w x y f
-      commit (Replica r) w x y f = wait-not-committed (sym f)
-
-      go : (b : Bool) → ltb (countOf acks) (c .simple) ≡ b → countOf acks < c .simple
-      go true f = ltb-true (countOf acks) (c .simple) f
-      go false f = absurd (commit (vote status.Committed) (vote status.Accepting) (groupBy k p voted statuses entries) (vote status.PreAccepting) (sym (choice-open (ltb-false (countOf acks) (c .simple) f)) ∙ e))
+-- so the entries refuse exactly by the number of the refusal
+pub choice-refused : (rule : Rule) (c : Config) (p : Prepare) (acks voted : List Bool) (statuses : List Status) (entries : List Contents) (m : ℕ)
+    → answerBy rule c p acks voted statuses entries ≡ refused m
+    → (0 < refusalOf c (namedFit (c .n) (p .row) acks voted) voted entries) × (refusalOf c (namedFit (c .n) (p .row) acks voted) voted entries ≡ m)
+unfolding answerBy
+choice-refused rule c p acks voted statuses entries m e = refused-by _ _ m (choice-never-refuses (countsOf rule c) c p acks voted statuses entries) e
 
 -- ---- the two rules differ in the count alone
 
