@@ -58,11 +58,12 @@ fn decided(
     let identical = identical::count_identical(entries, replied, config.sup);
     let first = identical.first;
     let gone = gone(config.own, replied, silent);
-    if identical.most + (config.n - gone - acks) < config.sup {
-        first.decides(entries, Step::Committed, slow(replied, entries))
+    let otherwise = if identical.most + (config.n - gone - acks) < config.sup {
+        slow(replied, entries)
     } else {
-        first.decides(entries, Step::Committed, Decision::WAIT)
-    }
+        Decision::WAIT
+    };
+    first.decides(entries, Step::Committed, otherwise)
 }
 
 // Accepting, with the union of the dependencies and the greatest sequence.

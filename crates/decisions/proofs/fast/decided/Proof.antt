@@ -1,15 +1,14 @@
 -- `decisions::fast::decided` meets its contract: each test decides as the definition does, and what may still come is not negative.
 use mathlib.Core.Path.{_≡_, refl, ap, sym, _∙_}
-use Prim.Native.Nat.{_≤_, _<_}
 use native.Mathlib.Omega.{arith}
 use Rattle.base.proofs.ConfigLaws.{config-fits-each}
 use Rattle.decisions.specs.Answer.{decisionOf, committed}
 use Rattle.decisions.specs.Identical.{mostEquals}
-use Rattle.decisions.specs.Fast.{possible}
 use Rattle.decisions.specs.declared.answer.Step.the-variants.{Committed}
 use Rattle.decisions.proofs.IdenticalLaws.{most-at-most, found-inside}
-use Rattle.decisions.proofs.FastLaws.{heard-at-most, fast-few, fast-avoided, fast-open, later-slow, later-wait}
+use Rattle.decisions.proofs.FastLaws.{heard-at-most, fast-few, fast-avoided, fast-open, later-slow, later-wait, later}
 use Rattle.decisions.proofs.HolderLaws.{decides-as}
+use mathlib.Core.Logic.{⊎-elim}
 use borrow.Author.Needs.{needs}
 use Rattle.decisions.proofs.fast.decided.Statement.{statement}
 use Rattle.decisions.proofs.fast.decided.Tie as tie
@@ -64,38 +63,24 @@ slow-requires-2 c κs = search needs
 
 decides-requires : tie.Need-decides-requires
 decides-requires c κs =
-    let o = c .before .before .before .before .before .before in
-    let a = o .before .before .before .before .before .args in
-    found-inside (a .entries) (a .replied) _ _ (o .count-identical .ensures)
-
-decides-requires-2 : tie.Need-decides-requires-2
-decides-requires-2 c κs =
     let o = c .before .before .before .before .before in
     let a = o .before .before .before .before .before .args in
     found-inside (a .entries) (a .replied) _ _ (o .count-identical .ensures)
 
 returns-3 : tie.Need-returns-3
 returns-3 c =
-    let o = c .before .before .before .before .before .before .before in
+    let g = c .before .before .before .before .before in
+    let o = g .before in
     let k = o .before .before .before .before in
     let a = k .before .args in
     let d = sym (k .count .ensures) in
     let m = ap (λ x. x .most) (o .count-identical .ensures) in
-    let h : possible (a .config) (a .replied) (a .entries) (a .silent) < a .config .sup = rw (← m, ← c .before .before .before .before .before .before .gone .ensures, d) (c .before .before .if3 .taken) in
-    decides-as (a .entries) Committed committed (λ x. refl) _ _ _ _ _ (c .decides .ensures) (ap (λ x. x .first) (o .count-identical .ensures))
-    (c .before .slow2 .ensures ∙ ap decisionOf (sym (later-slow (a .config) (a .avoided) (a .replied) (a .entries) (a .silent) h)))
-    ∙ ap decisionOf (sym (fast-open (a .config) (a .avoided) (a .replied) (a .entries) (a .silent) (omega (arith, d)) (o .before .if2 .left)))
-
-returns-4 : tie.Need-returns-4
-returns-4 c =
-    let o = c .before .before .before .before .before .before in
-    let k = o .before .before .before .before in
-    let a = k .before .args in
-    let d = sym (k .count .ensures) in
-    let m = ap (λ x. x .most) (o .count-identical .ensures) in
-    let h : a .config .sup ≤ possible (a .config) (a .replied) (a .entries) (a .silent) = rw (← m, ← c .before .before .before .before .before .gone .ensures, d) (c .before .if3 .left) in
-    decides-as (a .entries) Committed committed (λ x. refl) _ _ _ _ _ (c .decides2 .ensures) (ap (λ x. x .first) (o .count-identical .ensures))
-    (ap decisionOf (sym (later-wait (a .config) (a .avoided) (a .replied) (a .entries) (a .silent) h)))
+    let n : c .before .if3 .otherwise ≡ decisionOf (later (a .config) (a .avoided) (a .replied) (a .entries) (a .silent)) =
+    ⊎-elim
+    (λ t. t .2 ∙ t .1 .ensures ∙ ap decisionOf (sym (later-slow (a .config) (a .avoided) (a .replied) (a .entries) (a .silent) (rw (← m, ← g .gone .ensures, d) (t .0 .taken)))))
+    (λ t. t .1 ∙ ap decisionOf (sym (later-wait (a .config) (a .avoided) (a .replied) (a .entries) (a .silent) (rw (← m, ← g .gone .ensures, d) (t .0 .left)))))
+    (c .before .if3 .came) in
+    decides-as (a .entries) Committed committed (λ x. refl) _ _ _ _ _ (c .decides .ensures) (ap (λ x. x .first) (o .count-identical .ensures)) n
     ∙ ap decisionOf (sym (fast-open (a .config) (a .avoided) (a .replied) (a .entries) (a .silent) (omega (arith, d)) (o .before .if2 .left)))
 
 pub decided-spec : {M : Type 1} → statement M
@@ -113,6 +98,4 @@ decided-spec =
     add-if3
     slow-requires-2
     decides-requires
-    decides-requires-2
-    returns-3
-    returns-4)
+    returns-3)
