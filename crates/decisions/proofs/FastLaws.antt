@@ -79,6 +79,10 @@ module _ (c : Config) (avoided : Bool) (replied : List Bool) (entries : List Con
   unfolding fastDecision
   fast-open h a = rw (le-ltb (countOf replied) (c .simple) h, a)
 
+  -- as whoever is first with enough decides
+  open-by : c .simple ≤ countOf replied → avoided ≡ false → (h : Holder) → firstEnough entries replied (c .sup) ≡ h → answer ≡ orElse h entries committed later
+  open-by l a h e = fast-open l a ∙ ap (λ (x : Holder). orElse x entries committed later) e
+
   pub later-slow : possible c replied entries silent < c .sup → later ≡ slowPath
   later-slow h = rw (lt-ltb (possible c replied entries silent) (c .sup) h)
 
@@ -116,6 +120,11 @@ module _ (c : Config) (avoided : Bool) (replied : List Bool) (entries : List Con
   not-fails : (r : ℕ) → hasEnough entries replied (c .sup) r ≡ false → Enough r → ⊥
   not-fails r h e = true≢false (sym (enough-passes r e) ∙ h)
 
+  first-of : (r : ℕ) → lowestBelow 7 (hasEnough entries replied (c .sup)) ≡ Replica r → FirstEnough r
+  first-of r e =
+      let w = lowest-is 7 (hasEnough entries replied (c .sup)) r e in
+      record { one = w .below; enough = passes-enough r (w .passes); lowest = λ q k. not-fails q (w .first q k) }
+
   -- the five ways that a decision can go
   pub data Way : Type 0 where
     few : countOf replied < c .simple → answer ≡ wait → Way
@@ -126,18 +135,14 @@ module _ (c : Config) (avoided : Bool) (replied : List Bool) (entries : List Con
 
   first-way : c .simple ≤ countOf replied → avoided ≡ false → (h : Holder) → firstEnough entries replied (c .sup) ≡ h → Way
   unfolding firstEnough
-  first-way l a (Replica r) e =
-      let w = lowest-is 7 (hasEnough entries replied (c .sup)) r e in
-      commits l a r
-      (record { one = w .below; enough = passes-enough r (w .passes); lowest = λ q k. not-fails q (w .first q k) })
-      (fast-open l a ∙ ap (λ (h : Holder). orElse h entries committed later) e)
+  first-way l a (Replica r) e = commits l a r (first-of r e) (open-by l a (Replica r) e)
   first-way l a Nobody e = go (ltb (possible c replied entries silent) (c .sup)) refl
     where
       none : NoneEnough
       none r k = not-fails r (lowest-nobody 7 (hasEnough entries replied (c .sup)) e r k)
 
       is-later : answer ≡ later
-      is-later = fast-open l a ∙ ap (λ (h : Holder). orElse h entries committed later) e
+      is-later = open-by l a Nobody e
 
       go : (b : Bool) → ltb (possible c replied entries silent) (c .sup) ≡ b → Way
       go true f = let k = ltb-true (possible c replied entries silent) (c .sup) f in slows l a none k (is-later ∙ later-slow k)
@@ -167,8 +172,7 @@ module _ (c : Config) (avoided : Bool) (replied : List Bool) (entries : List Con
   unfolding firstEnough
   committed-when x w =
       let l : Lowest 7 (hasEnough entries replied (c .sup)) (w .holder) = record { below = w .first .one; passes = enough-passes (w .holder) (w .first .enough); first = λ q k. fails-not q (w .first .lowest q k) } in
-      fast-open (w .heard) (w .allowed)
-      ∙ ap (λ (h : Holder). orElse h entries committed later) (is-lowest 7 (hasEnough entries replied (c .sup)) (w .holder) l)
+      open-by (w .heard) (w .allowed) (Replica (w .holder)) (is-lowest 7 (hasEnough entries replied (c .sup)) (w .holder) l)
       ∙ ap committed (sym (w .words))
 
   pub when-committed : (x : Contents) → answer ≡ committed x → Commits x
@@ -188,9 +192,7 @@ module _ (c : Config) (avoided : Bool) (replied : List Bool) (entries : List Con
     where
       go : (x : Holder) → lowestBelow 7 (hasEnough entries replied (c .sup)) ≡ x → (q : ℕ) × FirstEnough q
       go Nobody e = absurd (not-fails r (lowest-nobody 7 (hasEnough entries replied (c .sup)) e r l) h)
-      go (Replica q) e =
-          let w = lowest-is 7 (hasEnough entries replied (c .sup)) q e in
-          (q, record { one = w .below; enough = passes-enough q (w .passes); lowest = λ j k. not-fails j (w .first j k) })
+      go (Replica q) e = (q, first-of q e)
 
   -- Accepting exactly when the fast path is avoided, or no words occur often enough and none could any more
   abbrev pub Accepts : Type 0
@@ -200,7 +202,7 @@ module _ (c : Config) (avoided : Bool) (replied : List Bool) (entries : List Con
   accepting-when w =
       ⊎-elim
       (λ a. fast-avoided (w .0) a)
-      (λ a. fast-open (w .0) (a .0) ∙ ap (λ (h : Holder). orElse h entries committed later) (nobody (a .1)) ∙ later-slow (a .2))
+      (λ a. open-by (w .0) (a .0) Nobody (nobody (a .1)) ∙ later-slow (a .2))
       (w .1)
 
   pub when-accepting : (x : Contents) → answer ≡ accepting x → Accepts × (x ≡ joined replied entries)
@@ -221,7 +223,7 @@ module _ (c : Config) (avoided : Bool) (replied : List Bool) (entries : List Con
   wait-when w =
       ⊎-elim
       (λ l. fast-few l)
-      (λ a. fast-open (a .0) (a .1) ∙ ap (λ (h : Holder). orElse h entries committed later) (nobody (a .2)) ∙ later-wait (a .3))
+      (λ a. open-by (a .0) (a .1) Nobody (nobody (a .2)) ∙ later-wait (a .3))
       w
 
   pub when-wait : answer ≡ wait → Waits

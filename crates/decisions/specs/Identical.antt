@@ -16,16 +16,18 @@ use Rattle.decisions.specs.declared.identical.Group.{Group}
 abbrev pub sameSaid : List Contents → ℕ → ℕ → Bool
 sameSaid entries r q = sameContents (saidBy entries r) (saidBy entries q)
 
--- how often what a replica says occurs among those listed
+-- an entry that is listed, and equal
 abbrev pub isEqual : Bool → Contents → Contents → Bool
 isEqual listed a b = listed && sameContents a b
 
 abbrev pub equalTo : List Contents → List Bool → ℕ → ℕ → Bool
 equalTo entries listed r q = isEqual (marked listed q) (saidBy entries r) (saidBy entries q)
 
+-- how often what a replica says occurs among those listed
 abbrev pub occurrences : List Contents → List Bool → ℕ → ℕ
 occurrences entries listed r = countBelow 7 (equalTo entries listed r)
 
+-- it is listed, and that is often enough
 abbrev pub hasEnough : List Contents → List Bool → ℕ → ℕ → Bool
 hasEnough entries listed enough r = marked listed r && leb enough (occurrences entries listed r)
 
