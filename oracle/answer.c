@@ -1,0 +1,151 @@
+/* Calls the C functions of crates/host for the comparison: frames of requests on standard input, their answers on
+ * standard output.
+ *
+ * A frame: its length, 4 bytes, then requests one after another. A request: which function, 1 byte (CALLS below);
+ * its numbers, 8 bytes each; its slices, each a length of 4 bytes and the bytes; the length of out, 4 bytes.
+ * An answer: what the function returned, 8 bytes; then out and the bytes behind it, all FILL before the call.
+ * All numbers are low byte first, as on every machine that the archive runs on.
+ *
+ * No header is used, so that nothing but the kit is asked for. */
+
+typedef unsigned char byte;
+typedef unsigned int half;
+typedef unsigned long word;
+
+extern long read(int file, void *bytes, word count);
+extern long write(int file, const void *bytes, word count);
+extern void _exit(int status) __attribute__((noreturn));
+extern void *memcpy(void *to, const void *from, word count);
+extern void *memset(void *to, int value, word count);
+
+extern word nj_union(const byte *a, word a_length, const byte *b, word b_length, byte *out, word out_length);
+extern word nj_fast_decision(word n, word own, word simple, word sup, word avoided, const byte *replies,
+                             word replies_length, const byte *silent, word silent_length, byte *out, word out_length);
+extern word nj_rust_choice(word n, word own, word simple, word sup, word row, word highest, word initial,
+                           const byte *acks, word acks_length, const byte *votes, word votes_length, byte *out,
+                           word out_length);
+extern word nj_paper_choice(word n, word own, word simple, word sup, word row, word highest, word initial,
+                            const byte *acks, word acks_length, const byte *votes, word votes_length, byte *out,
+                            word out_length);
+
+enum { UNION = 1, FAST_DECISION, RUST_CHOICE, PAPER_CHOICE, CALLS };
+enum { FILL = 0xA5, BEHIND = 16, FRAME = 1 << 22, MOST_NUMBERS = 7, MOST_SLICES = 2 };
+
+/* How many numbers each function takes; each takes two slices and out. */
+static const half NUMBERS[CALLS] = {0, 0, 5, 7, 7};
+
+struct slice {
+    const byte *at;
+    word length;
+};
+
+struct request {
+    half function;
+    word numbers[MOST_NUMBERS];
+    struct slice slices[MOST_SLICES];
+    word out_length;
+};
+
+static byte frame[FRAME];
+static byte answers[FRAME];
+
+/* Where the comparison ends inside a frame, or sends what is no request: a fault of its own. */
+static void stop(void) {
+    static const char said[] = "answer: a frame that cannot be read\n";
+    write(2, said, sizeof said - 1);
+    _exit(1);
+}
+
+/* Reads all of it; 0 where the input ends before its first byte. */
+static int read_whole(byte *to, word count) {
+    for (word got = 0; got < count;) {
+        long more = read(0, to + got, count - got);
+        if (more <= 0) {
+            if (got == 0) return 0;
+            stop();
+        }
+        got += (word)more;
+    }
+    return 1;
+}
+
+static void write_whole(const byte *from, word count) {
+    while (count > 0) {
+        long more = write(1, from, count);
+        if (more <= 0) _exit(1);
+        from += more;
+        count -= (word)more;
+    }
+}
+
+static const byte *take(const byte **at, const byte *end, word count) {
+    const byte *from = *at;
+    if ((word)(end - from) < count) stop();
+    *at = from + count;
+    return from;
+}
+
+static word take_half(const byte **at, const byte *end) {
+    half value;
+    memcpy(&value, take(at, end, sizeof value), sizeof value);
+    return value;
+}
+
+static struct request take_request(const byte **at, const byte *end) {
+    struct request r;
+    r.function = *take(at, end, 1);
+    if (r.function < UNION || r.function >= CALLS) stop();
+    word size = NUMBERS[r.function] * sizeof(word);
+    memcpy(r.numbers, take(at, end, size), size);
+    for (int i = 0; i < MOST_SLICES; i++) {
+        r.slices[i].length = take_half(at, end);
+        r.slices[i].at = take(at, end, r.slices[i].length);
+    }
+    r.out_length = take_half(at, end);
+    return r;
+}
+
+static word call(const struct request *r, byte *out) {
+    const word *n = r->numbers;
+    const struct slice *a = &r->slices[0], *b = &r->slices[1];
+    word length = r->out_length;
+    switch (r->function) {
+    case UNION:
+        return nj_union(a->at, a->length, b->at, b->length, out, length);
+    case FAST_DECISION:
+        return nj_fast_decision(n[0], n[1], n[2], n[3], n[4], a->at, a->length, b->at, b->length, out, length);
+    case RUST_CHOICE:
+        return nj_rust_choice(n[0], n[1], n[2], n[3], n[4], n[5], n[6], a->at, a->length, b->at, b->length, out,
+                              length);
+    default:
+        return nj_paper_choice(n[0], n[1], n[2], n[3], n[4], n[5], n[6], a->at, a->length, b->at, b->length, out,
+                               length);
+    }
+}
+
+/* Answers one request, and says where the next answer goes. */
+static byte *answer(const struct request *r, byte *to) {
+    byte *out = to + sizeof(word);
+    word size = r->out_length + BEHIND;
+    if ((word)(answers + FRAME - out) < size) stop();
+    memset(out, FILL, size);
+    word code = call(r, out);
+    memcpy(to, &code, sizeof code);
+    return out + size;
+}
+
+int main(void) {
+    byte size[4];
+    while (read_whole(size, sizeof size)) {
+        const byte *at = size;
+        word length = take_half(&at, size + sizeof size);
+        if (length > FRAME || (length > 0 && !read_whole(frame, length))) stop();
+        byte *to = answers;
+        for (at = frame; at < frame + length;) {
+            struct request r = take_request(&at, frame + length);
+            to = answer(&r, to);
+        }
+        write_whole(answers, (word)(to - answers));
+    }
+    return 0;
+}

@@ -1,0 +1,45 @@
+//! Runs the unchanged Rust beside the C functions of crates/host and compares every answer.
+//!   beside compare ANSWER SECONDS SEED   ANSWER: the program that calls the C functions
+//!   beside freeze SEED DATE LIST STDOUT  writes a list of the Rust's answers, and what crates/vectors prints of it
+//!   beside trace                         the Rust alone, on a trace in hex on standard input
+mod answerer;
+mod bytes;
+mod cases;
+mod compare;
+mod draw;
+mod exhaustive;
+mod freeze;
+mod random;
+mod refused;
+mod rust_says;
+mod spoil;
+mod tally;
+mod trace;
+
+use std::process::ExitCode;
+
+fn number(word: &str) -> Result<u64, String> {
+    word.parse().map_err(|_| format!("{word} is no number"))
+}
+
+fn run(words: &[&str]) -> Result<bool, String> {
+    match words {
+        ["compare", answer, seconds, seed] => compare::run(answer, number(seconds)?, number(seed)?),
+        ["freeze", seed, date, list, stdout] => freeze::run(number(seed)?, date, list, stdout),
+        ["trace"] => trace::run(),
+        _ => Err("usage: beside compare ANSWER SECONDS SEED | freeze SEED DATE LIST STDOUT | trace".into()),
+    }
+}
+
+fn main() -> ExitCode {
+    let words: Vec<String> = std::env::args().skip(1).collect();
+    let words: Vec<&str> = words.iter().map(String::as_str).collect();
+    match run(&words) {
+        Ok(true) => ExitCode::SUCCESS,
+        Ok(false) => ExitCode::FAILURE,
+        Err(what) => {
+            eprintln!("beside: {what}");
+            ExitCode::from(2)
+        }
+    }
+}
