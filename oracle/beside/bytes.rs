@@ -89,6 +89,7 @@ impl Request {
     }
 }
 
+pub const DONE: u64 = 100;
 pub const WAIT: u64 = 104;
 
 /// What a call returns and writes to `out`.

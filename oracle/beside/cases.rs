@@ -1,6 +1,6 @@
-//! The questions in plain words, as calls, and as lines of a list.
-use crate::bytes::{self, Answer, BATCH, Function, REPLIES, Request, SET, VOTE_BATCHES, VOTE_STATUSES, VOTES, WORD};
-use summerset::plain::{Config, Contents, Deps, Kind, Prepare, Reply, Request as Asked, Vote};
+//! The questions in plain words, and as calls.
+use crate::bytes::{self, BATCH, Function, REPLIES, Request, SET, VOTE_BATCHES, VOTE_STATUSES, VOTES, WORD};
+use summerset::plain::{Config, Contents, Deps, Prepare, Reply, Vote};
 
 #[derive(Clone, PartialEq, Eq, Debug)]
 pub enum Case {
@@ -9,7 +9,7 @@ pub enum Case {
     Choice { by: Function, config: Config, prepare: Prepare },
 }
 
-fn numbers_of(config: &Config) -> [u64; 4] {
+pub fn numbers_of(config: &Config) -> [u64; 4] {
     [config.n, config.own, config.simple, config.sup].map(|number| number as u64)
 }
 
@@ -105,84 +105,5 @@ impl Case {
             votes: bytes::marked(second).into_iter().map(|r| vote_at(second, r, n)).collect(),
         };
         Case::Choice { by: request.function, config, prepare }
-    }
-
-    /// A line of a list: the question in numbers, then its answer.
-    pub fn line(&self, answer: &Answer) -> String {
-        let mut line = vec![u64::from(self.function().number())];
-        match self {
-            Case::Union { a, b } => {
-                put_set(&mut line, a);
-                put_set(&mut line, b);
-            }
-            Case::Fast { config, avoided, replies, silent } => {
-                line.extend(numbers_of(config));
-                line.push(u64::from(*avoided));
-                line.push(replies.len() as u64);
-                for r in replies {
-                    line.extend([r.replica as u64, r.seq]);
-                    put_set(&mut line, &r.deps);
-                }
-                put_replicas(&mut line, silent);
-            }
-            Case::Choice { config, prepare, .. } => {
-                line.extend(numbers_of(config));
-                line.extend([prepare.row as u64, prepare.highest, prepare.default]);
-                put_replicas(&mut line, &prepare.acks);
-                line.push(prepare.votes.len() as u64);
-                for v in &prepare.votes {
-                    line.extend([v.replica as u64, v.status as u64]);
-                    put_contents(&mut line, &v.contents);
-                }
-            }
-        }
-        self.put_answer(&mut line, answer);
-        line.iter().map(u64::to_string).collect::<Vec<_>>().join(" ")
-    }
-
-    /// What is not written is 0 here.
-    fn put_answer(&self, line: &mut Vec<u64>, answer: &Answer) {
-        let mut out = answer.out.clone();
-        out.resize(self.function().lengths()[2], 0);
-        line.push(answer.code);
-        match self {
-            Case::Union { .. } => put_set(line, &bytes::set_at(&out, 0, SET)),
-            Case::Fast { config, .. } => {
-                line.push(bytes::word(&out, 0));
-                put_set(line, &bytes::set_at(&out, WORD, config.n));
-            }
-            Case::Choice { config, .. } => {
-                let deps = bytes::set_at(&out, WORD, config.n);
-                let batch = bytes::batch_at(&out, WORD + SET);
-                put_contents(line, &Contents { seq: bytes::word(&out, 0), deps, batch });
-            }
-        }
-    }
-}
-
-fn put_set(line: &mut Vec<u64>, deps: &Deps) {
-    line.extend(deps.iter().map(|d| d.map_or(0, |col| col as u64 + 1)));
-}
-
-fn put_replicas(line: &mut Vec<u64>, replicas: &[usize]) {
-    line.push(replicas.len() as u64);
-    line.extend(replicas.iter().map(|r| *r as u64));
-}
-
-fn put_contents(line: &mut Vec<u64>, contents: &Contents) {
-    line.push(contents.seq);
-    put_set(line, &contents.deps);
-    line.push(contents.batch.len() as u64);
-    for r in &contents.batch {
-        put_request(line, r);
-    }
-}
-
-fn put_request(line: &mut Vec<u64>, request: &Asked) {
-    line.extend([request.client, request.id]);
-    match request.kind {
-        Kind::Other => line.push(0),
-        Kind::Put { key, value } => line.extend([1, key, value]),
-        Kind::Get { key } => line.extend([2, key]),
     }
 }

@@ -2,7 +2,7 @@
 use crate::bytes::Function;
 use crate::cases::Case;
 use crate::random::Random;
-use summerset::plain::{Config, Contents, Deps, Kind, Prepare, Reply, Request, Status, Vote};
+use summerset::plain::{Config, Contents, Deps, Kind, Prepare, Reply, Request, SlotAt, Status, Vote};
 use summerset::refusals::SEQUENCE;
 
 pub fn case(function: Function, random: &mut Random) -> Case {
@@ -43,11 +43,27 @@ fn request(random: &mut Random) -> Request {
     Request { client: word(random), id: word(random), kind }
 }
 
+fn batch(random: &mut Random) -> Vec<Request> {
+    let count = random.of(&[0, 1, 1, 2, 3, 4]);
+    (0..count).map(|_| request(random)).collect()
+}
+
+/// A population, what was stored in slots of it, and a batch that is to come.
+pub fn stores(random: &mut Random) -> (usize, Vec<(SlotAt, Vec<Request>)>, Vec<Request>) {
+    let n = 1 + random.below(7);
+    let times = random.below(8);
+    let mut stored = || {
+        let any = random.below(32);
+        ((random.below(n), random.of(&[0, 1, 31, any])), batch(random))
+    };
+    let stores = (0..times).map(|_| stored()).collect();
+    (n, stores, batch(random))
+}
+
 fn contents(n: usize, random: &mut Random) -> Contents {
     let any = random.word() % SEQUENCE;
     let seq = random.of(&[0, 1, 2, 4, SEQUENCE - 1, SEQUENCE, any]);
-    let count = random.of(&[0, 1, 1, 2, 3, 4]);
-    Contents { seq, deps: set(n, random), batch: (0..count).map(|_| request(random)).collect() }
+    Contents { seq, deps: set(n, random), batch: batch(random) }
 }
 
 /// The same but for one thing, so that a comparison that leaves something out is found.

@@ -1,29 +1,44 @@
 //! A fixed list of the Rust's answers, for crates/vectors.
 use crate::bytes::Function;
-use crate::cases::Case;
 use crate::random::Random;
-use crate::{draw, rust_says};
-use std::fmt::Write;
+use crate::{draw, list, rust_says};
+use summerset::protocols::epaxos::replica;
 
-/// How many cases of each function.
-const CASES: [(Function, usize); 4] =
-    [(Function::Union, 500), (Function::Fast, 1000), (Function::RustChoice, 500), (Function::PaperChoice, 250)];
+/// What a part of the list asks: a C function, or the key columns, which have none yet.
+enum Asked {
+    Call(Function),
+    Identify,
+}
 
-const LEGEND: &str = "\
-Written by oracle/freeze, and not by hand. One case a line, in decimal numbers; a set is per row 0 or a column and one.
-1 union: two sets of 7 rows; the code, the union.
-2 fast decision: n own simple super avoided; how many replies, each: replica, sequence, set of n rows;
-  how many silent, each: replica; the code, sequence, set.
-3 recovery choice: n own simple super row highest default; how many acks, each: replica;
-  how many votes, each: replica, status, sequence, set, batch; the code, sequence, set, batch.
-4 recovery choice by the paper's count: the same.
-A batch: its count, then per request client, id, kind: 0 other, 1 put, then key and value, 2 get, then key.
-Codes: 100 done, 104 wait, 105 Committed, 106 Accepting, 107 PreAccepting. After a wait all is 0.
-";
+/// How many cases of each.
+const PARTS: [(Asked, usize); 5] = [
+    (Asked::Call(Function::Union), 500),
+    (Asked::Call(Function::Fast), 1000),
+    (Asked::Call(Function::RustChoice), 500),
+    (Asked::Call(Function::PaperChoice), 250),
+    (Asked::Identify, 500),
+];
 
-fn line(function: Function, random: &mut Random) -> Result<String, String> {
-    let case: Case = draw::case(function, random);
-    Ok(case.line(&rust_says::answer(&case)?))
+impl Asked {
+    fn name(&self) -> &'static str {
+        match self {
+            Asked::Call(function) => function.name(),
+            Asked::Identify => "identify after refreshes",
+        }
+    }
+
+    fn line(&self, random: &mut Random) -> Result<String, String> {
+        match self {
+            Asked::Call(function) => {
+                let case = draw::case(*function, random);
+                Ok(list::call(&case, &rust_says::answer(&case)?))
+            }
+            Asked::Identify => {
+                let (n, stores, batch) = draw::stores(random);
+                Ok(list::identify(n, &stores, &batch, &replica::identified(n, &stores, &batch)))
+            }
+        }
+    }
 }
 
 /// Writes the list, and what the program has to print of it.
@@ -31,16 +46,15 @@ pub fn run(seed: u64, date: &str, list: &str, stdout: &str) -> Result<bool, Stri
     rust_says::keep_panics_quiet();
     let mut random = Random::new(seed);
     let first = format!("The Rust's answers: seed {seed}, {date}\n");
-    let (mut lines, mut printed) = (format!("{first}{LEGEND}\n"), first);
-    for (function, times) in CASES {
-        for _ in 0..times {
-            lines += &line(function, &mut random)?;
-            lines.push('\n');
+    let (mut lines, mut printed) = (format!("{first}{}\n", list::LEGEND), first);
+    for (asked, times) in &PARTS {
+        for _ in 0..*times {
+            lines += &(asked.line(&mut random)? + "\n");
         }
-        writeln!(printed, "{} {times}", function.name()).map_err(|e| e.to_string())?;
+        printed += &format!("{} {times}\n", asked.name());
     }
-    let all: usize = CASES.iter().map(|(_, times)| times).sum();
-    writeln!(printed, "{all} cases, 0 differences").map_err(|e| e.to_string())?;
+    let all: usize = PARTS.iter().map(|(_, times)| times).sum();
+    printed += &format!("{all} cases, 0 differences\n");
     for (path, text) in [(list, lines), (stdout, printed)] {
         std::fs::write(path, text).map_err(|e| format!("cannot write {path}: {e}"))?;
     }

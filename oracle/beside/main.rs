@@ -9,6 +9,7 @@ mod compare;
 mod draw;
 mod exhaustive;
 mod freeze;
+mod list;
 mod random;
 mod refused;
 mod rust_says;

@@ -1,12 +1,10 @@
 //! The Rust's answer to a case, in the bytes of the C function that is compared with it.
-use crate::bytes::{self, Answer, Function, WAIT};
+use crate::bytes::{self, Answer, DONE, Function, WAIT};
 use crate::cases::Case;
 use std::cell::RefCell;
 use std::panic::{self, AssertUnwindSafe};
 use summerset::plain::{Config, Contents, Deps, Prepare, Status};
 use summerset::protocols::epaxos::replica;
-
-const DONE: u64 = 100;
 
 thread_local! {
     static SAID_IN_PANIC: RefCell<String> = const { RefCell::new(String::new()) };

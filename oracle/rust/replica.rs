@@ -99,6 +99,15 @@ pub fn union(a: &Deps, b: &Deps) -> Deps {
     set.0
 }
 
+/// What the Rust identifies for a batch, after it refreshed the key columns by each store in turn.
+pub fn identified(n: usize, stores: &[(SlotAt, Vec<Request>)], batch: &[Request]) -> Deps {
+    let mut highest = HashMap::new();
+    for ((row, col), stored) in stores {
+        EPaxosReplica::refresh_highest_cols(SlotIdx(small(*row), *col), &batch_of(stored), small(n), &mut highest);
+    }
+    EPaxosReplica::identify_deps(&batch_of(batch), small(n), &highest).0
+}
+
 /// The Rust's fast decision.
 pub fn fast(
     config: &plain::Config,

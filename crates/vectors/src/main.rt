@@ -1,0 +1,46 @@
+// Replays the list that its first argument names: cases with the right answers, against the C functions of crate host and
+// the key columns of crate deps.
+mod text; // text.rt: how words, numbers and lines are printed
+mod list; // list.rt: the head of the list, and the numbers after it
+mod parts; // parts.rt: what cases are made of: sets, batches, marks and the rest, out of numbers
+mod outcome; // outcome.rt: how a case went
+mod union; // union.rt: cases of the union
+mod fast; // fast.rt: cases of the fast decision
+mod choice; // choice.rt: cases of both recovery choices
+mod identify; // identify.rt: cases of the key columns
+mod tally; // tally.rt: the counts, and the lines on what differs
+mod replay; // replay.rt: the cases of a list, one after the other
+
+ghost use Rattle.io.specs.Counts.{Counts};
+
+// The room for a list. One that fills it is too long, since more of it may be left.
+const ROOM: usize = 1048576;
+
+fn main() {
+    let mut path = io::buffer();
+    let length = os::arg(1, &mut path);
+    if os::errno() != 0 {
+        os::fail(b"list");
+        return;
+    }
+    let file = os::open_read(&path[..length]);
+    if file < 0 {
+        os::fail(&path[..length]);
+        return;
+    }
+    let mut room = [0u8; ROOM];
+    let count = read(file, &mut room);
+    libc::close(file);
+    if count == ROOM {
+        text::word(b"the list is too long\n");
+        return;
+    }
+    replay::replay(&room[..count]);
+}
+
+// How much of the room the list fills. The room is lent as an array, since a proof on its length would take a step for each byte.
+fn read(file: i32, room: &mut [u8; ROOM]) -> usize
+    ensures { λ r. ⌜ Counts r (now (room .exit)) ⌝ }
+{
+    io::read_full(file, room)
+}
