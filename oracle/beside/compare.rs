@@ -1,4 +1,4 @@
-//! Every case of a small world, then cases at random until the time is over.
+//! Every case of a small world, however long that takes, then cases at random for the time that is given.
 use crate::answerer::Answerer;
 use crate::bytes::{Answer, FILL, Function, REQUEST, REQUESTS, Request, SET, WORD};
 use crate::cases::Case;
@@ -81,20 +81,20 @@ fn random_request(random: &mut Random) -> Request {
 
 /// Whether nothing differs.
 pub fn run(program: &str, seconds: u64, seed: u64) -> Result<bool, String> {
-    let end = Instant::now() + Duration::from_secs(seconds);
     rust_says::keep_panics_quiet();
     let answerer = Answerer::start(program)?;
     let mut comparison = Comparison { answerer, tally: Tally::default(), waiting: vec![], is_exhaustive: true };
     exhaustive::each(|case| comparison.push(case.request()))?;
     comparison.flush()?;
     comparison.is_exhaustive = false;
+    let end = Instant::now() + Duration::from_secs(seconds);
     let mut random = Random::new(seed);
     while Instant::now() < end {
         for _ in 0..FRAME {
             comparison.push(random_request(&mut random))?;
         }
     }
-    println!("seed {seed}, {seconds} seconds");
+    println!("seed {seed}, {seconds} seconds of random cases");
     comparison.tally.print();
     Ok(comparison.tally.differences() == 0)
 }

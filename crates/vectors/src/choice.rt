@@ -1,12 +1,11 @@
-// Cases of the recovery choice, the Rust's or the paper's: the configuration, the prepare, the acks, the votes;
-// the number of the answer, sequence, set and batch.
+// Cases of the recovery choice, of kind 3 by the Rust's counts and of kind 4 by the paper's: configuration, prepare, acks,
+// votes, and then the number of the answer, sequence, set, batch.
 ghost use Prim.Native.Nat.{_≤_};
 ghost use lib.ListN.{length};
 use super::list::number_at;
-use super::list::size_at;
 use super::outcome::Outcome;
 use super::outcome::UNTOUCHED;
-use super::outcome::outcome_of;
+use super::outcome::agree;
 use super::parts::Config;
 use super::parts::config_at;
 use super::parts::read_batch;
@@ -32,14 +31,11 @@ pub(crate) fn case(list: &[u8], at: usize, rule: Rule) -> Outcome {
     let prepare = prepare_at(list, config.next);
     let mut acks = [0u8; 7];
     let mut votes = [0u8; 882];
-    let mut contents = [0u8; 124];
     let after_acks = read_marks(list, prepare.next, &mut acks);
     let after_votes = read_votes(list, after_acks, config.n, &mut votes);
-    let code = number_at(list, after_votes, u64::MAX);
-    let next = read_contents(list, code.next, config.n, &mut contents);
     let mut out = [UNTOUCHED; 124];
     let answers = choice(rule, config, prepare, &acks, &votes, &mut out);
-    outcome_of(answers, code.value, &out, &contents, next)
+    compared(list, after_votes, config.n, answers, &out)
 }
 
 fn choice(
@@ -50,7 +46,7 @@ fn choice(
     votes: &[u8],
     out: &mut [u8],
 ) -> u64 {
-    let n = config.n as u64;
+    let n = config.n;
     let own = config.own;
     let simple = config.simple;
     let sup = config.sup;
@@ -80,14 +76,14 @@ fn prepare_at(list: &[u8], at: usize) -> Prepare {
 }
 
 // How many votes there are, and then each.
-fn read_votes(list: &[u8], at: usize, n: usize, votes: &mut [u8]) -> usize
+fn read_votes(list: &[u8], at: usize, n: u64, votes: &mut [u8]) -> usize
     requires { ⌜ n ≤ 7 ⌝ }
     requires { ⌜ 882 ≤ length (now votes) ⌝ }
 {
-    let count = size_at(list, at, 7);
+    let count = number_at(list, at, 7);
     let voted = count.value;
     let mut next = count.next;
-    let mut i: usize = 0;
+    let mut i: u64 = 0;
     while i < voted {
         next = read_vote(list, next, n, votes);
         i += 1;
@@ -95,25 +91,32 @@ fn read_votes(list: &[u8], at: usize, n: usize, votes: &mut [u8]) -> usize
     next
 }
 
-// A replica, its status, sequence, set and batch.
-fn read_vote(list: &[u8], at: usize, n: usize, votes: &mut [u8]) -> usize
+// A replica, and its status, sequence, set and batch.
+fn read_vote(list: &[u8], at: usize, n: u64, votes: &mut [u8]) -> usize
     requires { ⌜ n ≤ 7 ⌝ }
     requires { ⌜ 882 ≤ length (now votes) ⌝ }
 {
     let replica = read_mark(list, at, votes);
-    let r = replica.value;
+    let r = replica.value as usize;
     let after_status = read_byte(list, replica.next, votes, 7 + r);
     let after_seq = read_word(list, after_status, votes, 14 + 8 * r);
     let after_set = read_set(list, after_seq, n, votes, 70 + 7 * r);
     read_batch(list, after_set, votes, 119 + 109 * r)
 }
 
-// Sequence, set and batch.
-fn read_contents(list: &[u8], at: usize, n: usize, out: &mut [u8]) -> usize
+// What the list has from a place on, beside what the function answers and leaves in out.
+fn compared(list: &[u8], at: usize, n: u64, answers: u64, out: &[u8]) -> Outcome
     requires { ⌜ n ≤ 7 ⌝ }
-    requires { ⌜ 124 ≤ length (now out) ⌝ }
 {
-    let after_seq = read_word(list, at, out, 0);
-    let after_set = read_set(list, after_seq, n, out, 8);
-    read_batch(list, after_set, out, 15)
+    let code = number_at(list, at, u64::MAX);
+    let mut contents = [0u8; 124];
+    let after_seq = read_word(list, code.next, &mut contents, 0);
+    let after_set = read_set(list, after_seq, n, &mut contents, 8);
+    let next = read_batch(list, after_set, &mut contents, 15);
+    Outcome {
+        answers: answers,
+        listed: code.value,
+        agree: agree(code.value, out, &contents),
+        next: next,
+    }
 }

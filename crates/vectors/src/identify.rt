@@ -1,19 +1,19 @@
-// Cases of identify and refresh: the population, what was stored in slots, and a batch; the number of the answer, and the
-// set that the batch waits for.
+// Cases of the key columns, of kind 5: the population, what was stored in slots, a batch, and then the number of the answer
+// and the set that the batch waits for.
 ghost use Prim.Native.Nat.{_≤_};
 use super::list::number_at;
-use super::list::size_at;
 use super::outcome::Outcome;
-use super::outcome::UNTOUCHED;
-use super::outcome::outcome_of;
+use super::outcome::agree;
 use super::parts::batch_at;
-use super::parts::read_set;
+use super::parts::set_at;
 use deps::batches::Batch;
 use deps::keys::Keys;
-use layout::sets::put_set;
 
-// These two have no C function: what is done with them is always done.
+// Neither refresh nor identify has a C function, so they have no number of their own: what they do is done.
 const DONE: u64 = 100;
+
+// No table has more slots.
+const SLOTS: u64 = 224;
 
 // A batch, and the slot that it is stored in.
 pub struct Store {
@@ -24,16 +24,16 @@ pub struct Store {
 }
 
 pub(crate) fn case(list: &[u8], at: usize) -> Outcome {
-    let population = size_at(list, at, 7);
-    let count = size_at(list, population.next, 224); // no table has more slots
+    let population = number_at(list, at, 7);
+    let count = number_at(list, population.next, SLOTS);
     let stores = count.value;
     let mut keys = Keys::empty();
     let mut next = count.next;
-    let mut i: usize = 0;
+    let mut i: u64 = 0;
     while i < stores {
         let store = store_at(list, next);
-        let stored = store.batch;
-        keys = keys.refresh(store.row, store.col, stored);
+        let batch = store.batch;
+        keys = keys.refresh(store.row, store.col, batch);
         next = store.next;
         i += 1;
     }
@@ -43,28 +43,31 @@ pub(crate) fn case(list: &[u8], at: usize) -> Outcome {
 fn store_at(list: &[u8], at: usize) -> Store
     ensures { λ r. ⌜ r .col ≤ 31 ⌝ }
 {
-    let row = size_at(list, at, 6);
-    let col = size_at(list, row.next, 31);
+    let row = number_at(list, at, 6);
+    let col = number_at(list, row.next, 31);
     let read = batch_at(list, col.next);
     let batch = read.batch;
     Store {
-        row: row.value,
-        col: col.value,
+        row: row.value as usize,
+        col: col.value as usize,
         batch: batch,
         next: read.next,
     }
 }
 
-// The batch at the place, and what is identified for it.
-fn identified(list: &[u8], at: usize, n: usize, keys: Keys) -> Outcome
+// What the list has from a place on, the batch first, beside what is identified for it.
+fn identified(list: &[u8], at: usize, n: u64, keys: Keys) -> Outcome
     requires { ⌜ n ≤ 7 ⌝ }
 {
     let read = batch_at(list, at);
     let batch = read.batch;
     let code = number_at(list, read.next, u64::MAX);
-    let mut contents = [0u8; 7];
-    let next = read_set(list, code.next, n, &mut contents, 0);
-    let mut out = [UNTOUCHED; 7];
-    put_set(&mut out, 0, keys.identify(batch));
-    outcome_of(DONE, code.value, &out, &contents, next)
+    let waits_for = set_at(list, code.next, n);
+    let set = keys.identify(batch);
+    Outcome {
+        answers: DONE,
+        listed: code.value,
+        agree: agree(code.value, &set.cols, &waits_for.cols),
+        next: waits_for.next,
+    }
 }

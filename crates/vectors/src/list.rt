@@ -1,6 +1,5 @@
-// The list: a head, ended by an empty line, and then decimal numbers, each ended by one blank or newline.
+// The list: a head, which ends with an empty line, and then decimal numbers, each of which ends with one blank or newline.
 ghost use Prim.Native.Nat.{_≤_};
-ghost use lib.ListN.{length};
 
 // The place after something that cannot be read. It lies past every list, so nothing can be read from there either.
 pub(crate) const LOST: usize = usize::MAX;
@@ -11,18 +10,6 @@ pub struct Number {
     pub next: usize,
 }
 
-// The same of a number that counts or indexes.
-pub struct Size {
-    pub value: usize,
-    pub next: usize,
-}
-
-// The same of a number that is put as one byte.
-pub struct Byte {
-    pub value: u8,
-    pub next: usize,
-}
-
 impl Number {
     const NONE: Number = Number {
         value: 0,
@@ -30,15 +17,15 @@ impl Number {
     };
 }
 
-// A number with one digit more.
+// A number with one digit more, if there is one.
 enum Longer {
-    By(u64),
-    Not,
+    To(u64),
+    Nothing,
 }
 
 pub(crate) fn first_line(list: &[u8]) -> &[u8] {
     let mut end: usize = 0;
-    while end < list.len() && !is_newline(list[end]) {
+    while end < list.len() && list[end] != b'\n' {
         end += 1;
     }
     &list[..end]
@@ -49,7 +36,7 @@ pub(crate) fn after_head(list: &[u8]) -> usize {
     let mut was_newline = false;
     let mut at: usize = 0;
     while at < list.len() {
-        let newline = is_newline(list[at]);
+        let newline = list[at] == b'\n';
         at += 1;
         if newline && was_newline {
             return at;
@@ -59,7 +46,7 @@ pub(crate) fn after_head(list: &[u8]) -> usize {
     LOST
 }
 
-// The number at a place, if it is at most the greatest one that its reader has room for.
+// The number at a place, if it is no more than its reader has room for.
 pub(crate) fn number_at(list: &[u8], at: usize, most: u64) -> Number
     ensures { λ r. ⌜ r .value ≤ most ⌝ }
 {
@@ -70,7 +57,7 @@ pub(crate) fn number_at(list: &[u8], at: usize, most: u64) -> Number
         if is_blank(byte) {
             return ended(value, at, end, most);
         }
-        let Longer::By(longer) = with_digit(value, byte) else {
+        let Longer::To(longer) = with_digit(value, byte) else {
             return Number::NONE;
         };
         value = longer;
@@ -79,45 +66,25 @@ pub(crate) fn number_at(list: &[u8], at: usize, most: u64) -> Number
     Number::NONE
 }
 
-pub(crate) fn size_at(list: &[u8], at: usize, most: usize) -> Size
-    ensures { λ r. ⌜ r .value ≤ most ⌝ }
-{
-    let number = number_at(list, at, most as u64);
-    Size {
-        value: number.value as usize,
-        next: number.next,
-    }
-}
-
-pub(crate) fn byte_at(list: &[u8], at: usize, most: u8) -> Byte
-    ensures { λ r. ⌜ r .value ≤ most ⌝ }
-{
-    let number = number_at(list, at, most as u64);
-    Byte {
-        value: number.value as u8,
-        next: number.next,
-    }
-}
-
-// None where the byte is no digit, or where the number would have more than 64 bits.
+// Nothing where the byte is no digit, or where the number would have more than 64 bits.
 fn with_digit(value: u64, byte: u8) -> Longer {
     if byte < b'0' {
-        return Longer::Not;
+        return Longer::Nothing;
     }
     if b'9' < byte {
-        return Longer::Not;
+        return Longer::Nothing;
     }
     let digit = (byte - b'0') as u64;
     if u64::MAX / 10 < value {
-        return Longer::Not;
+        return Longer::Nothing;
     }
     if u64::MAX - 10 * value < digit {
-        return Longer::Not;
+        return Longer::Nothing;
     }
-    Longer::By(10 * value + digit)
+    Longer::To(10 * value + digit)
 }
 
-// What the digits from at to end make: no number where there are none.
+// The value of the digits from at to end, if there are any.
 fn ended(value: u64, at: usize, end: usize, most: u64) -> Number
     ensures { λ r. ⌜ r .value ≤ most ⌝ }
 {
@@ -133,14 +100,10 @@ fn ended(value: u64, at: usize, end: usize, most: u64) -> Number
     }
 }
 
-fn is_newline(byte: u8) -> bool {
-    byte == b'\n'
-}
-
 // Whether the byte ends a number.
 fn is_blank(byte: u8) -> bool {
     if byte == b' ' {
         return true;
     }
-    is_newline(byte)
+    byte == b'\n'
 }

@@ -1,9 +1,9 @@
-// Replays the list that its first argument names: cases with the right answers, against the C functions of crate host and
-// the key columns of crate deps.
+// Replays a list of cases, each with the right answer, against the C functions of crate host and the key columns of crate
+// deps, and prints how many there are and which of them differ. The first argument names the list.
 mod text; // text.rt: how words, numbers and lines are printed
 mod list; // list.rt: the head of the list, and the numbers after it
-mod parts; // parts.rt: what cases are made of: sets, batches, marks and the rest, out of numbers
-mod outcome; // outcome.rt: how a case went
+mod parts; // parts.rt: what cases are made of, out of numbers: marks, sets, batches
+mod outcome; // outcome.rt: how a case went: what the function answers beside what the list has
 mod union; // union.rt: cases of the union
 mod fast; // fast.rt: cases of the fast decision
 mod choice; // choice.rt: cases of both recovery choices
@@ -17,15 +17,8 @@ ghost use Rattle.io.specs.Counts.{Counts};
 const ROOM: usize = 1048576;
 
 fn main() {
-    let mut path = io::buffer();
-    let length = os::arg(1, &mut path);
-    if os::errno() != 0 {
-        os::fail(b"list");
-        return;
-    }
-    let file = os::open_read(&path[..length]);
+    let file = open();
     if file < 0 {
-        os::fail(&path[..length]);
         return;
     }
     let mut room = [0u8; ROOM];
@@ -38,7 +31,23 @@ fn main() {
     replay::replay(&room[..count]);
 }
 
-// How much of the room the list fills. The room is lent as an array, since a proof on its length would take a step for each byte.
+// The file that the first argument names; below 0 where it cannot be opened, and then it is said why.
+fn open() -> i32 {
+    let mut path = io::buffer();
+    let length = os::arg(1, &mut path);
+    if os::errno() != 0 {
+        os::fail(b"list");
+        return -1;
+    }
+    let file = os::open_read(&path[..length]);
+    if file < 0 {
+        os::fail(&path[..length]);
+    }
+    file
+}
+
+// How much of the room the list fills. The room is lent as an array, since to lend it as a slice would take a proof that
+// counts its bytes one by one.
 fn read(file: i32, room: &mut [u8; ROOM]) -> usize
     ensures { λ r. ⌜ Counts r (now (room .exit)) ⌝ }
 {

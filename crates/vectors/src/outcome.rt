@@ -1,10 +1,11 @@
 // How a case went.
 use super::list::LOST;
 
-// What fills out before a call, so that a byte that is written shows.
+// What fills out before a call, so that what is written shows.
 pub(crate) const UNTOUCHED: u8 = 0xA5;
 
-// What the function answers, what the list has, whether the contents are the list's too, and the place after the case.
+// The number that the function answers, the one that the list has, whether the contents are the list's too, and the place
+// after the case.
 pub struct Outcome {
     pub answers: u64,
     pub listed: u64,
@@ -20,26 +21,22 @@ impl Outcome {
         agree: false,
         next: LOST,
     };
-}
 
-// out is what the function left, contents what the list has.
-pub(crate) fn outcome_of(
-    answers: u64,
-    listed: u64,
-    out: &[u8],
-    contents: &[u8],
-    next: usize,
-) -> Outcome {
-    Outcome {
-        answers: answers,
-        listed: listed,
-        agree: do_agree(listed, out, contents),
-        next: next,
+    // Whether the case went as the list has it.
+    pub(crate) fn is_right(self) -> bool {
+        if self.next == LOST {
+            return false;
+        }
+        if self.answers != self.listed {
+            return false;
+        }
+        self.agree
     }
 }
 
-// A number with nothing to go on with leaves out as it was, and has zeros in the list.
-fn do_agree(listed: u64, out: &[u8], contents: &[u8]) -> bool {
+// Whether out, as the function leaves it, has the list's contents. Where there is nothing to go on with, out stays as it was
+// and the list has zeros.
+pub(crate) fn agree(listed: u64, out: &[u8], contents: &[u8]) -> bool {
     if goes_on(listed) {
         return are_same(out, contents);
     }

@@ -1,10 +1,9 @@
-// What cases are made of. Each is read at a place of the list, and the place after it is answered, LOST if it cannot be read.
+// What cases are made of. What .._at answers has the place after it in next; what read_.. reads is put into bytes, and the
+// place after it is answered. That place is LOST where something cannot be read.
 ghost use Prim.Native.Nat.{_+_, _≤_};
 ghost use lib.ListN.{length};
-use super::list::Size;
-use super::list::byte_at;
+use super::list::Number;
 use super::list::number_at;
-use super::list::size_at;
 use deps::batches::Batch;
 use deps::batches::Kind;
 use deps::batches::Request;
@@ -15,7 +14,7 @@ use layout::sets::put_set;
 
 // How many replicas there are, which one is mine, and how many make a quorum.
 pub struct Config {
-    pub n: usize,
+    pub n: u64,
     pub own: u64,
     pub simple: u64,
     pub sup: u64,
@@ -23,17 +22,12 @@ pub struct Config {
 }
 
 pub struct ReadSet {
-    pub set: DepSet,
+    pub cols: [u8; 7],
     pub next: usize,
 }
 
 pub struct ReadKind {
     pub kind: Kind,
-    pub next: usize,
-}
-
-pub struct ReadRequest {
-    pub request: Request,
     pub next: usize,
 }
 
@@ -45,7 +39,7 @@ pub struct ReadBatch {
 pub(crate) fn config_at(list: &[u8], at: usize) -> Config
     ensures { λ r. ⌜ r .n ≤ 7 ⌝ }
 {
-    let n = size_at(list, at, 7);
+    let n = number_at(list, at, 7);
     let own = number_at(list, n.next, u64::MAX);
     let simple = number_at(list, own.next, u64::MAX);
     let sup = number_at(list, simple.next, u64::MAX);
@@ -58,14 +52,14 @@ pub(crate) fn config_at(list: &[u8], at: usize) -> Config
     }
 }
 
-// How many replicas are marked, and then each.
+// How many replicas are marked, and then which.
 pub(crate) fn read_marks(list: &[u8], at: usize, marks: &mut [u8]) -> usize
     requires { ⌜ 7 ≤ length (now marks) ⌝ }
 {
-    let count = size_at(list, at, 7);
+    let count = number_at(list, at, 7);
     let marked = count.value;
     let mut next = count.next;
-    let mut i: usize = 0;
+    let mut i: u64 = 0;
     while i < marked {
         let replica = read_mark(list, next, marks);
         next = replica.next;
@@ -74,13 +68,13 @@ pub(crate) fn read_marks(list: &[u8], at: usize, marks: &mut [u8]) -> usize
     next
 }
 
-// A replica, put as a 1 in its place.
-pub(crate) fn read_mark(list: &[u8], at: usize, marks: &mut [u8]) -> Size
+// A replica, marked by a 1 in its place.
+pub(crate) fn read_mark(list: &[u8], at: usize, marks: &mut [u8]) -> Number
     requires { ⌜ 7 ≤ length (now marks) ⌝ }
     ensures { λ r. ⌜ r .value ≤ 6 ⌝ }
 {
-    let replica = size_at(list, at, 6);
-    let r = replica.value;
+    let replica = number_at(list, at, 6);
+    let r = replica.value as usize;
     marks[r] = 1;
     replica
 }
@@ -89,9 +83,9 @@ pub(crate) fn read_mark(list: &[u8], at: usize, marks: &mut [u8]) -> Size
 pub(crate) fn read_byte(list: &[u8], at: usize, out: &mut [u8], to: usize) -> usize
     requires { ⌜ to + 1 ≤ length (now out) ⌝ }
 {
-    let byte = byte_at(list, at, 255);
-    out[to] = byte.value;
-    byte.next
+    let number = number_at(list, at, 255);
+    out[to] = number.value as u8;
+    number.next
 }
 
 // A sequence, put as eight bytes.
@@ -103,14 +97,14 @@ pub(crate) fn read_word(list: &[u8], at: usize, out: &mut [u8], to: usize) -> us
     number.next
 }
 
-// A set of n rows, put as seven.
-pub(crate) fn read_set(list: &[u8], at: usize, n: usize, out: &mut [u8], to: usize) -> usize
+// A set, put as seven bytes.
+pub(crate) fn read_set(list: &[u8], at: usize, n: u64, out: &mut [u8], to: usize) -> usize
     requires { ⌜ n ≤ 7 ⌝ }
     requires { ⌜ to + 7 ≤ length (now out) ⌝ }
 {
     let read = set_at(list, at, n);
-    let set = read.set;
-    put_set(out, to, set);
+    let cols = read.cols;
+    put_set(out, to, DepSet { cols: cols });
     read.next
 }
 
@@ -124,34 +118,43 @@ pub(crate) fn read_batch(list: &[u8], at: usize, out: &mut [u8], to: usize) -> u
     read.next
 }
 
-fn set_at(list: &[u8], at: usize, n: usize) -> ReadSet
+// The first n rows, each 0 for nothing or a column and one; the others have nothing.
+pub(crate) fn set_at(list: &[u8], at: usize, n: u64) -> ReadSet
     requires { ⌜ n ≤ 7 ⌝ }
 {
-    let mut set = DepSet::EMPTY;
+    let rows = n as usize;
+    let mut cols = [0u8; 7];
     let mut next = at;
     let mut row: usize = 0;
-    while row < n {
-        let number = byte_at(list, next, 255);
-        set.cols[row] = number.value;
+    while row < rows {
+        let number = number_at(list, next, 255);
+        cols[row] = number.value as u8;
         next = number.next;
         row += 1;
     }
     ReadSet {
-        set: set,
+        cols: cols,
         next: next,
     }
 }
 
+// How many requests there are, and then client, id and kind of each.
 pub(crate) fn batch_at(list: &[u8], at: usize) -> ReadBatch {
-    let count = size_at(list, at, 4);
+    let count = number_at(list, at, 4);
     let held = count.value;
     let mut batch = Batch::NO_OP;
     let mut next = count.next;
-    let mut i: usize = 0;
+    let mut i: u64 = 0;
     while i < held {
-        let read = request_at(list, next);
-        let request = read.request;
-        batch = batch.with(request);
+        let client = number_at(list, next, u64::MAX);
+        let id = number_at(list, client.next, u64::MAX);
+        let read = kind_at(list, id.next);
+        let kind = read.kind;
+        batch = batch.with(Request {
+            client: client.value,
+            id: id.value,
+            kind: kind,
+        });
         next = read.next;
         i += 1;
     }
@@ -161,55 +164,29 @@ pub(crate) fn batch_at(list: &[u8], at: usize) -> ReadBatch {
     }
 }
 
-fn request_at(list: &[u8], at: usize) -> ReadRequest {
-    let client = number_at(list, at, u64::MAX);
-    let id = number_at(list, client.next, u64::MAX);
-    let read = kind_at(list, id.next);
-    let kind = read.kind;
-    let request = Request {
-        client: client.value,
-        id: id.value,
-        kind: kind,
-    };
-    ReadRequest {
-        request: request,
-        next: read.next,
-    }
-}
-
+// 0 other; 1 put, with key and value; 2 get, with a key.
 fn kind_at(list: &[u8], at: usize) -> ReadKind {
-    let number = byte_at(list, at, 2);
-    let kind = number.value;
-    match kind {
-        1 => put_at(list, number.next),
-        2 => get_at(list, number.next),
-        _ => ReadKind {
+    let kind = number_at(list, at, 2);
+    if kind.value == 0 {
+        return ReadKind {
             kind: Kind::Other,
-            next: number.next,
-        },
+            next: kind.next,
+        };
     }
-}
-
-fn put_at(list: &[u8], at: usize) -> ReadKind {
-    let key = number_at(list, at, 65535);
+    let key = number_at(list, kind.next, 65535);
+    let k = key.value as u16;
+    if kind.value == 2 {
+        return ReadKind {
+            kind: Kind::Get { key: k },
+            next: key.next,
+        };
+    }
     let value = number_at(list, key.next, u64::MAX);
-    let kind = Kind::Put {
-        key: key.value as u16,
-        value: value.value,
-    };
     ReadKind {
-        kind: kind,
+        kind: Kind::Put {
+            key: k,
+            value: value.value,
+        },
         next: value.next,
-    }
-}
-
-fn get_at(list: &[u8], at: usize) -> ReadKind {
-    let key = number_at(list, at, 65535);
-    let kind = Kind::Get {
-        key: key.value as u16,
-    };
-    ReadKind {
-        kind: kind,
-        next: key.next,
     }
 }

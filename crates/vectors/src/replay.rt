@@ -1,4 +1,5 @@
-// The cases of a list, one after the other.
+// The cases of a list, one after the other. A new kind of cases has a module like union.rt, an arm in case, and its name and
+// number in tally.rt.
 use super::choice;
 use super::fast;
 use super::identify;
@@ -16,7 +17,7 @@ use decisions::recovery::Rule;
 // that no list uses up.
 pub(crate) fn replay(list: &[u8]) {
     text::word(first_line(list));
-    text::end_line();
+    text::word(b"\n");
     let mut tally = Tally::NONE;
     let mut at = after_head(list);
     let mut turns = u64::MAX;
@@ -33,7 +34,7 @@ pub(crate) fn replay(list: &[u8]) {
     tally.print();
 }
 
-// The case whose kind stands before the place.
+// A case from the place after its kind on.
 fn case(list: &[u8], kind: u64, at: usize) -> Outcome {
     match kind {
         1 => union::case(list, at),

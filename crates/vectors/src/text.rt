@@ -1,4 +1,4 @@
-// What the program prints: words, numbers, ends of lines.
+// What the program prints: words, numbers, lines.
 use libc::STDOUT_FILENO;
 
 pub(crate) fn word(bytes: &[u8]) {
@@ -9,6 +9,9 @@ pub(crate) fn number(value: u64) {
     io::print_decimal(STDOUT_FILENO, value);
 }
 
-pub(crate) fn end_line() {
+// A number after words, where the line ends.
+pub(crate) fn line(bytes: &[u8], value: u64) {
+    word(bytes);
+    number(value);
     word(b"\n");
 }

@@ -1,20 +1,22 @@
-// Cases of the union: two sets of seven rows; the number of the answer, and the union.
+// Cases of the union, of kind 1, with sets of seven rows: a set, a set, the number of the answer, the union.
 use super::list::number_at;
 use super::outcome::Outcome;
 use super::outcome::UNTOUCHED;
-use super::outcome::outcome_of;
-use super::parts::read_set;
+use super::outcome::agree;
+use super::parts::set_at;
 use host::union::nj_union;
 
 pub(crate) fn case(list: &[u8], at: usize) -> Outcome {
-    let mut a = [0u8; 7];
-    let mut b = [0u8; 7];
-    let mut contents = [0u8; 7];
-    let after_a = read_set(list, at, 7, &mut a, 0);
-    let after_b = read_set(list, after_a, 7, &mut b, 0);
-    let code = number_at(list, after_b, u64::MAX);
-    let next = read_set(list, code.next, 7, &mut contents, 0);
+    let a = set_at(list, at, 7);
+    let b = set_at(list, a.next, 7);
+    let code = number_at(list, b.next, u64::MAX);
+    let union = set_at(list, code.next, 7);
     let mut out = [UNTOUCHED; 7];
-    let answers = nj_union(&a, &b, &mut out);
-    outcome_of(answers, code.value, &out, &contents, next)
+    let answers = nj_union(&a.cols, &b.cols, &mut out);
+    Outcome {
+        answers: answers,
+        listed: code.value,
+        agree: agree(code.value, &out, &union.cols),
+        next: union.next,
+    }
 }

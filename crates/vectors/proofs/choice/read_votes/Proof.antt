@@ -12,8 +12,8 @@ Inv-loop list at n votes₀ voted next₀ i₀ votes next i = length votes ≡ l
 abbrev μ-loop : tie.MeasureT-loop
 μ-loop list at n votes₀ voted next₀ i₀ votes next i = voted - i
 
-size-at-requires : tie.Need-size-at-requires Inv-loop μ-loop
-size-at-requires c κs = search needs
+number-at-requires : tie.Need-number-at-requires Inv-loop μ-loop
+number-at-requires c κs = search needs
 
 loop-holds : tie.Need-loop-holds Inv-loop μ-loop
 loop-holds c = search needs
@@ -42,7 +42,7 @@ read-votes-spec =
     (tie.spec
     Inv-loop
     μ-loop
-    size-at-requires
+    number-at-requires
     loop-holds
     read-vote-requires
     add-i

@@ -10,11 +10,11 @@ Inv-loop list at population stores keys₀ next₀ i₀ keys next i = Unit {0}
 abbrev μ-loop : tie.MeasureT-loop
 μ-loop list at population stores keys₀ next₀ i₀ keys next i = stores - i
 
-size-at-requires : tie.Need-size-at-requires Inv-loop μ-loop
-size-at-requires c κs = search needs
+number-at-requires : tie.Need-number-at-requires Inv-loop μ-loop
+number-at-requires c κs = search needs
 
-size-at-requires-2 : tie.Need-size-at-requires-2 Inv-loop μ-loop
-size-at-requires-2 c κs = search needs
+number-at-requires-2 : tie.Need-number-at-requires-2 Inv-loop μ-loop
+number-at-requires-2 c κs = search needs
 
 empty-requires : tie.Need-empty-requires Inv-loop μ-loop
 empty-requires c κs = search needs
@@ -49,8 +49,8 @@ case-spec =
     (tie.spec
     Inv-loop
     μ-loop
-    size-at-requires
-    size-at-requires-2
+    number-at-requires
+    number-at-requires-2
     empty-requires
     loop-holds
     store-at-requires

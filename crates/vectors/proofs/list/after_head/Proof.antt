@@ -14,11 +14,8 @@ abbrev μ-loop : tie.MeasureT-loop
 loop-holds : tie.Need-loop-holds Inv-loop μ-loop
 loop-holds c = search needs
 
-shared-slice-read-is-newline : tie.Need-shared-slice-read-is-newline Inv-loop μ-loop
-shared-slice-read-is-newline c = search needs
-
-is-newline-requires : tie.Need-is-newline-requires Inv-loop μ-loop
-is-newline-requires c κs = search needs
+shared-slice-read-newline : tie.Need-shared-slice-read-newline Inv-loop μ-loop
+shared-slice-read-newline c = search needs
 
 add-at : tie.Need-add-at Inv-loop μ-loop
 add-at c = search needs
@@ -42,8 +39,7 @@ after-head-spec =
     Inv-loop
     μ-loop
     loop-holds
-    shared-slice-read-is-newline
-    is-newline-requires
+    shared-slice-read-newline
     add-at
     returns
     loop-less

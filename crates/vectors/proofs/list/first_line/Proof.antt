@@ -1,8 +1,8 @@
 -- `vectors::list::first_line` is safe and ends: the place stays inside the list.
+use mathlib.Core.Path.{sym}
 use Prim.Native.Nat.{_≤_, _-_}
 use lib.ListN.{length}
 use lib.Seq.{length-take-le}
-use mathlib.Core.Path.{sym}
 use borrow.Author.Needs.{needs}
 use Rattle.vectors.proofs.list.first_line.Statement.{statement}
 use Rattle.vectors.proofs.list.first_line.Tie as tie
@@ -16,11 +16,8 @@ abbrev μ-loop : tie.MeasureT-loop
 loop-holds : tie.Need-loop-holds Inv-loop μ-loop
 loop-holds c = search needs
 
-shared-slice-read-is-newline : tie.Need-shared-slice-read-is-newline Inv-loop μ-loop
-shared-slice-read-is-newline c = search needs
-
-is-newline-requires : tie.Need-is-newline-requires Inv-loop μ-loop
-is-newline-requires c κs = search needs
+shared-slice-read-if1 : tie.Need-shared-slice-read-if1 Inv-loop μ-loop
+shared-slice-read-if1 c = search needs
 
 add-end : tie.Need-add-end Inv-loop μ-loop
 add-end c = search needs
@@ -44,8 +41,7 @@ first-line-spec =
     Inv-loop
     μ-loop
     loop-holds
-    shared-slice-read-is-newline
-    is-newline-requires
+    shared-slice-read-if1
     add-end
     loop-less
     loop-again

@@ -10,14 +10,20 @@ Inv-loop list at held batch₀ next₀ i₀ batch next i = Unit {0}
 abbrev μ-loop : tie.MeasureT-loop
 μ-loop list at held batch₀ next₀ i₀ batch next i = held - i
 
-size-at-requires : tie.Need-size-at-requires Inv-loop μ-loop
-size-at-requires c κs = search needs
+number-at-requires : tie.Need-number-at-requires Inv-loop μ-loop
+number-at-requires c κs = search needs
 
 loop-holds : tie.Need-loop-holds Inv-loop μ-loop
 loop-holds c = search needs
 
-request-at-requires : tie.Need-request-at-requires Inv-loop μ-loop
-request-at-requires c κs = search needs
+number-at-requires-2 : tie.Need-number-at-requires-2 Inv-loop μ-loop
+number-at-requires-2 c κs = search needs
+
+number-at-requires-3 : tie.Need-number-at-requires-3 Inv-loop μ-loop
+number-at-requires-3 c κs = search needs
+
+kind-at-requires : tie.Need-kind-at-requires Inv-loop μ-loop
+kind-at-requires c κs = search needs
 
 with-requires : tie.Need-with-requires Inv-loop μ-loop
 with-requires c κs = search needs
@@ -40,9 +46,11 @@ batch-at-spec =
     (tie.spec
     Inv-loop
     μ-loop
-    size-at-requires
+    number-at-requires
     loop-holds
-    request-at-requires
+    number-at-requires-2
+    number-at-requires-3
+    kind-at-requires
     with-requires
     add-i
     loop-less

@@ -12,8 +12,8 @@ Inv-loop list at marks₀ marked next₀ i₀ marks next i = length marks ≡ le
 abbrev μ-loop : tie.MeasureT-loop
 μ-loop list at marks₀ marked next₀ i₀ marks next i = marked - i
 
-size-at-requires : tie.Need-size-at-requires Inv-loop μ-loop
-size-at-requires c κs = search needs
+number-at-requires : tie.Need-number-at-requires Inv-loop μ-loop
+number-at-requires c κs = search needs
 
 loop-holds : tie.Need-loop-holds Inv-loop μ-loop
 loop-holds c = search needs
@@ -42,7 +42,7 @@ read-marks-spec =
     (tie.spec
     Inv-loop
     μ-loop
-    size-at-requires
+    number-at-requires
     loop-holds
     read-mark-requires
     add-i

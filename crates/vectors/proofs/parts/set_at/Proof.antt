@@ -1,24 +1,26 @@
 -- `vectors::parts::set_at` is safe and ends: the rows left fall.
 use Prim.Native.Nat.{_-_}
-use lib.ListN.{set}
 use borrow.Author.Needs.{needs}
 use Rattle.vectors.proofs.parts.set_at.Statement.{statement}
 use Rattle.vectors.proofs.parts.set_at.Tie as tie
 
 abbrev Inv-loop : tie.InvT-loop
-Inv-loop list at n set₀ next₀ row₀ set next row = Unit {0}
+Inv-loop list at n rows cols₀ next₀ row₀ cols next row = Unit {0}
 
 abbrev μ-loop : tie.MeasureT-loop
-μ-loop list at n set₀ next₀ row₀ set next row = n - row
+μ-loop list at n rows cols₀ next₀ row₀ cols next row = n - row
 
 loop-holds : tie.Need-loop-holds Inv-loop μ-loop
 loop-holds c = search needs
 
-byte-at-requires : tie.Need-byte-at-requires Inv-loop μ-loop
-byte-at-requires c κs = search needs
+number-at-requires : tie.Need-number-at-requires Inv-loop μ-loop
+number-at-requires c κs = search needs
 
-element-write-set : tie.Need-element-write-set Inv-loop μ-loop
-element-write-set c = search needs
+cast-cols : tie.Need-cast-cols Inv-loop μ-loop
+cast-cols c = search needs
+
+array-write-cols : tie.Need-array-write-cols Inv-loop μ-loop
+array-write-cols c = search needs
 
 add-row : tie.Need-add-row Inv-loop μ-loop
 add-row c = search needs
@@ -39,8 +41,9 @@ set-at-spec =
     Inv-loop
     μ-loop
     loop-holds
-    byte-at-requires
-    element-write-set
+    number-at-requires
+    cast-cols
+    array-write-cols
     add-row
     loop-less
     loop-again

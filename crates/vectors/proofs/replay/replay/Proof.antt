@@ -15,8 +15,11 @@ first-line-requires c κs = search needs
 word-requires : tie.Need-word-requires Inv-loop μ-loop
 word-requires c κs = search needs
 
-end-line-requires : tie.Need-end-line-requires Inv-loop μ-loop
-end-line-requires c κs = search needs
+slice-aggregate-word : tie.Need-slice-aggregate-word Inv-loop μ-loop
+slice-aggregate-word c = search needs
+
+word-requires-2 : tie.Need-word-requires-2 Inv-loop μ-loop
+word-requires-2 c κs = search needs
 
 after-head-requires : tie.Need-after-head-requires Inv-loop μ-loop
 after-head-requires c κs = search needs
@@ -56,7 +59,8 @@ replay-spec =
     μ-loop
     first-line-requires
     word-requires
-    end-line-requires
+    slice-aggregate-word
+    word-requires-2
     after-head-requires
     loop-holds
     number-at-requires
