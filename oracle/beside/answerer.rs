@@ -18,7 +18,8 @@ impl Answerer {
         Ok(Answerer { child, to, from })
     }
 
-    /// Hands over a frame of requests. The program reads all of it before it answers, so neither end waits for the other.
+    /// Hands over a frame of requests. The program reads all of it before it answers, so that neither end waits for the
+    /// other.
     pub fn ask(&mut self, requests: &[Request]) -> Result<(), String> {
         let mut frame = vec![0; 4];
         requests.iter().for_each(|r| r.put(&mut frame));

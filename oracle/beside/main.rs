@@ -16,6 +16,7 @@ mod rust_says;
 mod spoil;
 mod tally;
 mod trace;
+mod words;
 
 use std::process::ExitCode;
 

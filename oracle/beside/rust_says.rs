@@ -1,19 +1,23 @@
 //! The Rust's answer to a case, in the bytes of the C function that is compared with it.
 use crate::bytes::{self, Answer, DONE, Function, WAIT};
 use crate::cases::Case;
-use std::cell::RefCell;
+use std::cell::{Cell, RefCell};
 use std::panic::{self, AssertUnwindSafe};
 use summerset::plain::{Config, Contents, Deps, Prepare, Status};
 use summerset::protocols::epaxos::replica;
 
 thread_local! {
+    static IS_ASKED: Cell<bool> = const { Cell::new(false) };
     static SAID_IN_PANIC: RefCell<String> = const { RefCell::new(String::new()) };
     static EMPTY_LISTS: RefCell<(u64, String)> = const { RefCell::new((0, String::new())) };
 }
 
-/// Panics of the Rust are caught and looked at, so they print nothing.
+/// Panics of the Rust are caught and looked at, so they print nothing. Those of the comparison itself are printed.
 pub fn keep_panics_quiet() {
-    panic::set_hook(Box::new(|info| SAID_IN_PANIC.set(info.to_string())));
+    panic::set_hook(Box::new(|info| match IS_ASKED.get() {
+        true => SAID_IN_PANIC.set(info.to_string()),
+        false => eprintln!("beside: {info}"),
+    }));
 }
 
 /// How often the Rust has panicked on an empty list of votes, and in which words.
@@ -22,7 +26,10 @@ pub fn empty_lists() -> (u64, String) {
 }
 
 fn caught<T>(ask: impl FnOnce() -> T) -> Result<T, String> {
-    panic::catch_unwind(AssertUnwindSafe(ask)).map_err(|_| format!("the Rust panics: {}", SAID_IN_PANIC.take()))
+    IS_ASKED.set(true);
+    let said = panic::catch_unwind(AssertUnwindSafe(ask));
+    IS_ASKED.set(false);
+    said.map_err(|_| format!("the Rust panics: {}", SAID_IN_PANIC.take()))
 }
 
 /// The Rust's answer, or what it says where it panics and should not.

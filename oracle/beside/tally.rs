@@ -1,7 +1,7 @@
 //! What was compared, how often, and the first difference.
 use crate::bytes::{Answer, Function, Request};
 use crate::cases::Case;
-use crate::rust_says;
+use crate::{refused, rust_says, words};
 use std::collections::BTreeMap;
 
 #[derive(Default)]
@@ -18,21 +18,22 @@ pub struct Tally {
     first_difference: Option<String>,
 }
 
-fn meaning(code: u64) -> String {
-    match code {
-        0 => "short slice".into(),
-        100 => "done".into(),
-        104 => "wait".into(),
-        105 => "Committed".into(),
-        106 => "Accepting".into(),
-        107 => "PreAccepting".into(),
-        number => format!("refused {number}"),
-    }
-}
-
-fn shown(answer: &Answer) -> String {
-    let hex: String = answer.out.iter().map(|b| format!("{b:02x}")).collect();
-    format!("{} ({}), out {hex}", answer.code, meaning(answer.code))
+fn difference(request: &Request, expected: &Result<Answer, String>, got: &Answer) -> String {
+    let function = request.function;
+    let question = match refused::code(request) {
+        Some(_) => "to be refused".into(),
+        None => words::question(&Case::of(request)),
+    };
+    let lines = [
+        function.name().into(),
+        format!("question  {question}"),
+        format!("numbers   {:?}", request.numbers),
+        format!("slices    {}", words::hex(&request.slices[0])),
+        format!("          {}", words::hex(&request.slices[1])),
+        format!("expected  {}", expected.as_ref().map_or_else(Clone::clone, |e| words::answer(function, e))),
+        format!("answered  {}", words::answer(function, got)),
+    ];
+    lines.join("\n  ")
 }
 
 impl Tally {
@@ -48,23 +49,7 @@ impl Tally {
 
     pub fn differ(&mut self, request: &Request, expected: &Result<Answer, String>, got: &Answer) {
         self.counts[request.function as usize].differ += 1;
-        if self.first_difference.is_some() {
-            return;
-        }
-        let expected_shown = expected.as_ref().map_or_else(Clone::clone, shown);
-        let question = match crate::refused::code(request) {
-            Some(_) => "to be refused".into(),
-            None => format!("{:?}", Case::of(request)),
-        };
-        let hex = |slice: &Vec<u8>| slice.iter().map(|b| format!("{b:02x}")).collect::<String>();
-        self.first_difference = Some(format!(
-            "{}\n  question  {question}\n  numbers   {:?}\n  slices    {}\n            {}\n  expected  {expected_shown}\n  answered  {}",
-            request.function.name(),
-            request.numbers,
-            hex(&request.slices[0]),
-            hex(&request.slices[1]),
-            shown(got),
-        ));
+        self.first_difference.get_or_insert_with(|| difference(request, expected, got));
     }
 
     fn sum(&self, of: impl Fn(&Counts) -> u64) -> u64 {
@@ -82,9 +67,9 @@ impl Tally {
         }
         println!("answers expected");
         for (function, c) in Function::ALL.iter().zip(&self.counts) {
-            let words: Vec<String> =
-                c.by_code.iter().map(|(code, times)| format!("{} {times}", meaning(*code))).collect();
-            println!("  {}: {}", function.name(), words.join(", "));
+            let times: Vec<String> =
+                c.by_code.iter().map(|(code, n)| format!("{} {n}", words::meaning(*code))).collect();
+            println!("  {}: {}", function.name(), times.join(", "));
         }
         let (times, said) = rust_says::empty_lists();
         println!("panics on an empty list of votes, caught: {times}\n  {}", said.replace('\n', " "));

@@ -1,0 +1,75 @@
+//! Cases and answers in words, for whoever has to look at a difference.
+use crate::bytes::{self, Answer, DONE, Function, REPLICAS, SET, WAIT, WORD};
+use crate::cases::Case;
+use summerset::plain::{Config, Contents, Reply, Vote};
+use summerset::show;
+
+/// What a code says.
+pub fn meaning(code: u64) -> String {
+    match code {
+        0 => "short slice".into(),
+        DONE => "done".into(),
+        WAIT => "wait".into(),
+        105 => "Committed".into(),
+        106 => "Accepting".into(),
+        107 => "PreAccepting".into(),
+        number => format!("refused {number}"),
+    }
+}
+
+pub fn hex(bytes: &[u8]) -> String {
+    bytes.iter().map(|b| format!("{b:02x}")).collect()
+}
+
+fn each<T>(what: &str, all: &[T], word: impl Fn(&T) -> String) -> String {
+    match all {
+        [] => format!("no {what}"),
+        _ => format!("{what} {}", all.iter().map(word).collect::<Vec<_>>().join(", ")),
+    }
+}
+
+fn config(c: &Config) -> String {
+    format!("N {}, own {}, simple {}, super {}", c.n, c.own, c.simple, c.sup)
+}
+
+fn reply(r: &Reply) -> String {
+    format!("{}: ({},{})", r.replica, r.seq, show::set(&r.deps))
+}
+
+fn vote(v: &Vote) -> String {
+    format!("{}: {:?} {}", v.replica, v.status, show::contents(&v.contents))
+}
+
+pub fn question(case: &Case) -> String {
+    match case {
+        Case::Union { a, b } => format!("{} and {}", show::set(a), show::set(b)),
+        Case::Fast { config: c, avoided, replies, silent } => {
+            let path = if *avoided { "avoided" } else { "not avoided" };
+            let replies = each("replies", replies, reply);
+            format!("{}; fast path {path}; {replies}; {}", config(c), each("silent", silent, usize::to_string))
+        }
+        Case::Choice { config: c, prepare: p, .. } => {
+            let ballots = format!("row {}, highest ballot {}, default ballot {}", p.row, p.highest, p.default);
+            let votes = each("votes", &p.votes, vote);
+            format!("{}; {ballots}; {}; {votes}", config(c), each("acks", &p.acks, usize::to_string))
+        }
+    }
+}
+
+/// The code, what it says, what `out` holds where it is written, and its bytes.
+pub fn answer(function: Function, a: &Answer) -> String {
+    let held = match (function, a.code) {
+        (Function::Union, DONE) => show::set(&bytes::set_at(&a.out, 0, SET)),
+        (_, 105..=107) => contents(function, &a.out),
+        _ => "out not to be written".into(),
+    };
+    format!("{} ({}), {held}, out {}", a.code, meaning(a.code), hex(&a.out))
+}
+
+fn contents(function: Function, out: &[u8]) -> String {
+    let batch = match function.is_choice() && out[WORD + SET] as usize <= bytes::REQUESTS {
+        true => bytes::batch_at(out, WORD + SET),
+        false => vec![],
+    };
+    show::contents(&Contents { seq: bytes::word(out, 0), deps: bytes::set_at(out, WORD, REPLICAS), batch })
+}
