@@ -66,17 +66,17 @@ fn contents(n: usize, random: &mut Random) -> Contents {
     Contents { seq, deps: set(n, random), batch: batch(random) }
 }
 
-/// The same but for one thing, so that a comparison that leaves something out is found.
-fn near_twin(of: &Contents, random: &mut Random) -> Contents {
+/// The same but for one thing, so that a comparison that leaves something out is found. A reply has no batch to differ in.
+fn near_twin(of: &Contents, has_batch: bool, random: &mut Random) -> Contents {
     let mut twin = of.clone();
     let row = random.below(of.deps.len());
     let place = random.below(of.batch.len().max(1));
-    match random.below(8) {
+    match random.below(if has_batch { 8 } else { 2 }) {
         0 => twin.seq = if of.seq == 0 { 1 } else { of.seq - 1 },
         1 => twin.deps[row] = of.deps[row].map_or(Some(0), |col| col.checked_sub(1)),
-        2 => drop(twin.batch.pop()),
-        3 if of.batch.len() < 4 => twin.batch.push(request(random)),
+        2 if of.batch.len() < 4 => twin.batch.push(request(random)),
         _ if of.batch.is_empty() => twin.deps[row] = of.deps[row].map_or(Some(31), |_| None),
+        3 => drop(twin.batch.pop()),
         other => alter(&mut twin.batch[place], other, random),
     }
     twin
@@ -95,23 +95,17 @@ fn alter(request: &mut Request, what: usize, random: &mut Random) {
 }
 
 /// What each of n replicas says: all equal, all different, crossed as X Y Y X, or any of three.
-fn sayings(n: usize, random: &mut Random) -> Vec<Contents> {
+fn sayings(n: usize, has_batch: bool, random: &mut Random) -> Vec<Contents> {
     let x = contents(n, random);
-    let y = near_twin(&x, random);
+    let y = near_twin(&x, has_batch, random);
     let z = contents(n, random);
     let how = random.below(5);
     let mut said = |replica: usize| match how {
         0 => x.clone(),
         1 => Contents { seq: replica as u64, ..x.clone() },
-        2 => {
-            if matches!(replica % 4, 1 | 2) {
-                y.clone()
-            } else {
-                x.clone()
-            }
-        }
-        3 => random.of(&[x.clone(), x.clone(), y.clone()]),
-        _ => random.of(&[x.clone(), y.clone(), z.clone()]),
+        2 => [&x, &y, &y, &x][replica % 4].clone(),
+        3 => random.of(&[&x, &x, &y]).clone(),
+        _ => random.of(&[&x, &y, &z]).clone(),
     };
     (0..n).map(&mut said).collect()
 }
@@ -133,7 +127,7 @@ fn some_of(n: usize, enough: usize, random: &mut Random) -> Vec<usize> {
 fn fast(random: &mut Random) -> Case {
     let config = config(random);
     let enough = random.of(&[config.simple, config.sup]);
-    let said = sayings(config.n, random);
+    let said = sayings(config.n, false, random);
     let reply = |r: usize| Reply { replica: r, seq: said[r].seq, deps: said[r].deps.clone() };
     let replies = some_of(config.n, enough, random).into_iter().map(reply).collect();
     let silent = some_of(config.n, config.n - config.sup + 1, random);
@@ -154,7 +148,7 @@ fn statuses(n: usize, random: &mut Random) -> Vec<Status> {
 fn choice(by: Function, random: &mut Random) -> Case {
     let config = config(random);
     let statuses = statuses(config.n, random);
-    let said = sayings(config.n, random);
+    let said = sayings(config.n, true, random);
     let vote = |r: usize| Vote { replica: r, status: statuses[r], contents: said[r].clone() };
     let votes = some_of(config.n, config.simple, random).into_iter().map(vote).collect();
     let highest = word(random);

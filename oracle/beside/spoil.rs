@@ -43,23 +43,18 @@ fn fill(bytes: &mut [u8], random: &mut Random) {
     bytes.iter_mut().for_each(|b| *b = random.byte());
 }
 
-/// Changes one thing that may have to be refused.
+/// Changes one thing of a whole call that may have to be refused.
 pub fn spoil(request: &mut Request, random: &mut Random) {
     let which = random.below(2);
     let slice = &mut request.slices[which];
-    match random.below(8) {
-        0 => drop(slice.pop()),
-        1 => slice.truncate(random.below(slice.len() + 1)),
-        2 => slice.extend([random.byte(); 3]),
-        3 => request.out = random.of(&[0, request.out - 1, request.out + 5]),
-        4 if !request.numbers.is_empty() => spoil_number(&mut request.numbers, random),
-        5 if request.function != Function::Union => spoil_entry(request, random),
-        _ if !slice.is_empty() => {
-            let at = random.below(slice.len());
-            let any = random.byte();
-            slice[at] = random.of(&[0, 1, 2, 3, 4, 5, 32, 33, 255, any]);
-        }
-        _ => {}
+    let shorter = random.below(slice.len());
+    match random.below(10) {
+        0 => slice.truncate(random.of(&[shorter, slice.len() - 1])),
+        1 => slice.extend([random.byte(); 3]),
+        2 => request.out = random.of(&[0, request.out - 1, request.out + 5]),
+        3 | 4 if !request.numbers.is_empty() => spoil_number(&mut request.numbers, random),
+        5..=8 if request.function != Function::Union => spoil_entry(request, random),
+        _ => slice[shorter] = random.of(&[0, 1, 2, 3, 4, 5, 32, 33, 255]),
     }
 }
 
@@ -73,9 +68,6 @@ fn spoil_number(numbers: &mut [u64], random: &mut Random) {
 fn spoil_entry(request: &mut Request, random: &mut Random) {
     let is_votes = request.function.is_choice();
     let (entries, parts) = if is_votes { (&mut request.slices[1], VOTES) } else { (&mut request.slices[0], REPLIES) };
-    if entries.len() < parts.length {
-        return;
-    }
     let marked = bytes::marked(entries);
     let r = if marked.is_empty() { random.below(REPLICAS) } else { random.of(&marked) };
     let batch = VOTE_BATCHES + BATCH * r;
