@@ -1,5 +1,6 @@
 //! How a call of a C function of crates/host lies in bytes.
-use summerset::plain::{Deps, Kind, Request as Asked, Status};
+use summerset::plain::{Config, Deps, Kind, Request as Asked, Status};
+use summerset::refusals;
 
 /// What `out` is filled with before a call, and how many bytes behind it are watched.
 pub const FILL: u8 = 0xA5;
@@ -76,6 +77,11 @@ pub struct Request {
 }
 
 impl Request {
+    /// The first four numbers, where they are within the bounds; of the union there are none.
+    pub fn config(&self) -> Option<Config> {
+        refusals::config(self.numbers.get(..4)?.try_into().ok()?)
+    }
+
     pub fn put(&self, frame: &mut Vec<u8>) {
         frame.push(self.function.number());
         for number in &self.numbers {
@@ -102,6 +108,11 @@ pub struct Answer {
 impl Answer {
     pub fn unwritten(code: u64) -> Self {
         Answer { code, out: vec![] }
+    }
+
+    /// Whether there are contents in `out`, by the code and by the room there is.
+    pub fn has_contents(&self, function: Function) -> bool {
+        matches!(self.code, DONE | 105..=107) && self.out.len() >= function.lengths()[2]
     }
 }
 
@@ -144,7 +155,7 @@ pub fn key_at(bytes: &[u8]) -> u64 {
     u64::from(u16::from_le_bytes([bytes[KEY_IN_REQUEST], bytes[KEY_IN_REQUEST + 1]]))
 }
 
-pub fn request_at(bytes: &[u8], at: usize) -> Asked {
+fn request_at(bytes: &[u8], at: usize) -> Asked {
     let bytes = &bytes[at..at + REQUEST];
     let (key, value) = (key_at(bytes), word(bytes, VALUE_IN_REQUEST));
     let kind = match bytes[KIND_IN_REQUEST] {

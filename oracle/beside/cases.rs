@@ -13,11 +13,6 @@ pub fn numbers_of(config: &Config) -> [u64; 4] {
     [config.n, config.own, config.simple, config.sup].map(|number| number as u64)
 }
 
-fn config_of(numbers: &[u64]) -> Config {
-    let [n, own, simple, sup] = [0, 1, 2, 3].map(|i| numbers[i] as usize);
-    Config { n, own, simple, sup }
-}
-
 fn replies_bytes(replies: &[Reply]) -> Vec<u8> {
     let mut bytes = vec![0; REPLIES.length];
     bytes::put(&mut bytes, 0, &bytes::marks_of(replies.iter().map(|r| r.replica)));
@@ -90,7 +85,7 @@ impl Case {
         if request.function == Function::Union {
             return Case::Union { a: bytes::set_at(first, 0, SET), b: bytes::set_at(second, 0, SET) };
         }
-        let config = config_of(&request.numbers);
+        let config = request.config().expect("a call that is not refused");
         let n = config.n;
         if request.function == Function::Fast {
             let replies = bytes::marked(first).into_iter().map(|r| reply_at(first, r, n)).collect();

@@ -43,7 +43,7 @@ fn digits(mut number: usize, base: usize, n: usize) -> Vec<usize> {
     (0..n).map(|_| digit()).collect()
 }
 
-/// Three that differ in sequence, in dependencies, and in the batch.
+/// One of three, of which each two differ.
 fn contents(which: usize, n: usize) -> Contents {
     let mut deps = vec![None; n];
     deps[0] = Some(if which == 1 { 2 } else { 1 });

@@ -1,5 +1,5 @@
 //! A line of a list: a question in decimal numbers, then its answer.
-use crate::bytes::{self, Answer, SET, WORD};
+use crate::bytes::{self, Answer, DONE, SET, WORD};
 use crate::cases::{Case, numbers_of};
 use summerset::plain::{Contents, Deps, Kind, Request, SlotAt};
 
@@ -18,7 +18,7 @@ A batch: its count, then per request client, id, kind: 0 other, 1 put, then key 
 Codes: 100 done, 104 wait, 105 Committed, 106 Accepting, 107 PreAccepting. After a wait all is 0.
 ";
 
-pub const IDENTIFY: u64 = 5;
+const IDENTIFY: u64 = 5;
 
 #[derive(Default)]
 struct Line(Vec<u64>);
@@ -125,7 +125,7 @@ pub fn identify(n: usize, stores: &[(SlotAt, Vec<Request>)], batch: &[Request], 
         line.put_batch(stored);
     }
     line.put_batch(batch);
-    line.put([crate::bytes::DONE]);
+    line.put([DONE]);
     line.put_set(set);
     line.text()
 }

@@ -4,7 +4,7 @@ use crate::bytes::{
     VOTE_STATUSES, VOTES, WORD,
 };
 use summerset::plain::Config;
-use summerset::refusals::{self, COLUMNS, KEYS, SEQUENCE};
+use summerset::refusals::{COLUMNS, KEYS, SEQUENCE};
 
 const SHORT: u64 = 0;
 
@@ -16,7 +16,7 @@ pub fn code(request: &Request) -> Option<u64> {
     if request.function == Function::Union {
         return None;
     }
-    let Some(Config { n, .. }) = config_of(request).filter(|_| is_known(request)) else {
+    let Some(Config { n, .. }) = request.config().filter(|_| is_known(request)) else {
         return Some(1);
     };
     if !replicas_fit(request, n) {
@@ -30,10 +30,6 @@ pub fn code(request: &Request) -> Option<u64> {
         return Some(5);
     }
     (!entries.each(|e| e.seq() <= SEQUENCE)).then_some(6)
-}
-
-fn config_of(request: &Request) -> Option<Config> {
-    refusals::config([0, 1, 2, 3].map(|i| request.numbers[i]))
 }
 
 fn is_short(request: &Request) -> bool {

@@ -56,12 +56,12 @@ pub fn question(case: &Case) -> String {
     }
 }
 
-/// The code, what it says, what `out` holds where it is written, and its bytes.
+/// The code, what it says, the contents in `out` where there are any, and its bytes.
 pub fn answer(function: Function, a: &Answer) -> String {
-    let held = match (function, a.code) {
-        (Function::Union, DONE) => show::set(&bytes::set_at(&a.out, 0, SET)),
-        (_, 105..=107) => contents(function, &a.out),
-        _ => "out not to be written".into(),
+    let held = match (function, a.has_contents(function)) {
+        (_, false) => "no contents".into(),
+        (Function::Union, true) => show::set(&bytes::set_at(&a.out, 0, SET)),
+        (_, true) => contents(function, &a.out),
     };
     format!("{} ({}), {held}, out {}", a.code, meaning(a.code), hex(&a.out))
 }

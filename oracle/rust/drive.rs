@@ -12,7 +12,7 @@ fn slot_at(at: &Place) -> SlotAt {
     (at.row as usize, at.col as usize)
 }
 
-pub fn deps_of(numbers: &[u64]) -> Deps {
+fn deps_of(numbers: &[u64]) -> Deps {
     numbers.iter().map(|d| d.checked_sub(1).map(|col| col as usize)).collect()
 }
 

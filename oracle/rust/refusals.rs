@@ -1,7 +1,7 @@
 //! Refusals 1 to 7, by the table of the rules: the Rust has none, so they are tested before it is called.
 use crate::plain::{Config, Event, Kind, Place, Request};
 
-pub const POPULATION: u64 = 7;
+const POPULATION: u64 = 7;
 pub const COLUMNS: u64 = 32;
 const BATCH: usize = 4;
 pub const KEYS: u64 = 256;

@@ -2,8 +2,11 @@
 use crate::plain::{Config, Event, Kind, Place, Request, Status, Store};
 use crate::refusals;
 
-/// A refusal's number: 9 where the trace ends, 10 where a byte is wrong, 1 where the configuration is.
+/// A refusal's number: 11 of a trace that is too long, 9 where it ends, 10 where a byte is wrong, 1 where the configuration
+/// is.
 pub type Refusal = u8;
+
+const LONGEST: usize = 65_536;
 
 pub struct Reader<'a> {
     trace: &'a [u8],
@@ -37,6 +40,9 @@ impl<'a> Reader<'a> {
     }
 
     pub fn config(&mut self) -> Result<Config, Refusal> {
+        if self.trace.len() > LONGEST {
+            return Err(11);
+        }
         let numbers = [self.number()?, self.number()?, self.number()?, self.number()?];
         refusals::config(numbers).ok_or(1)
     }

@@ -58,7 +58,6 @@ impl Bitmap {
         Ok(())
     }
 
-    #[allow(clippy::cast_possible_truncation)]
     pub fn count(&self) -> u8 {
         self.bits.count_ones() as u8
     }

@@ -19,7 +19,6 @@ mod execution;
 #[path = "../../fetched/epaxos/messages.rs"]
 mod messages;
 
-#[path = "../replica.rs"]
 pub mod replica;
 
 type Ballot = u64;
@@ -175,7 +174,6 @@ fn packed(slot: SlotIdx, with: usize) -> u64 {
     (slot.1 as u64) << 16 | u64::from(slot.0) << 8 | with as u64
 }
 
-#[allow(clippy::cast_possible_truncation)]
 fn unpacked(word: u64) -> (SlotIdx, usize) {
     (SlotIdx((word >> 8) as u8, (word >> 16) as usize), (word & 0xff) as usize)
 }
