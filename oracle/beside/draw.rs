@@ -13,7 +13,7 @@ pub fn case(function: Function, random: &mut Random) -> Case {
     }
 }
 
-fn config(random: &mut Random) -> Config {
+pub fn config(random: &mut Random) -> Config {
     let n = random.of(&[1, 2, 3, 3, 4, 4, 5, 5, 6, 7, 7]);
     let any = 1 + random.below(n);
     let simple = random.of(&[1, n / 2 + 1, n, any]);

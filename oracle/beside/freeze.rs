@@ -1,22 +1,24 @@
 //! A fixed list of the Rust's answers, for crates/vectors.
 use crate::bytes::Function;
 use crate::random::Random;
-use crate::{draw, list, rust_says};
+use crate::{draw, list, runs, rust_says};
 use summerset::protocols::epaxos::replica;
 
-/// What a part of the list asks: a C function, or the key columns, which have none yet.
+/// What a part of the list asks: a C function, or the key columns or the handlers, which have none yet.
 enum Asked {
     Call(Function),
     Identify,
+    Run,
 }
 
 /// How many cases of each.
-const PARTS: [(Asked, usize); 5] = [
+const PARTS: [(Asked, usize); 6] = [
     (Asked::Call(Function::Union), 500),
     (Asked::Call(Function::Fast), 1000),
     (Asked::Call(Function::RustChoice), 500),
     (Asked::Call(Function::PaperChoice), 250),
     (Asked::Identify, 500),
+    (Asked::Run, 500),
 ];
 
 impl Asked {
@@ -24,6 +26,7 @@ impl Asked {
         match self {
             Asked::Call(function) => function.name(),
             Asked::Identify => "identify after refreshes",
+            Asked::Run => "handlers in a run",
         }
     }
 
@@ -37,6 +40,7 @@ impl Asked {
                 let (n, stores, batch) = draw::stores(random);
                 Ok(list::identify(n, &stores, &batch, &replica::identified(n, &stores, &batch)))
             }
+            Asked::Run => list::run(&runs::run(random)),
         }
     }
 }

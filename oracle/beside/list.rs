@@ -1,7 +1,8 @@
 //! A line of a list: a question in decimal numbers, then its answer.
 use crate::bytes::{self, Answer, DONE, SET, WORD};
 use crate::cases::{Case, numbers_of};
-use summerset::plain::{Contents, Deps, Kind, Request, SlotAt};
+use crate::runs::Run;
+use summerset::plain::{Answer as Answered, Contents, Deps, Event, Kind, Output, Request, Slot, SlotAt, Status, Table};
 
 /// What each line holds, for its reader.
 pub const LEGEND: &str = "\
@@ -14,11 +15,22 @@ Written by oracle/freeze, and not by hand. One case a line, in decimal numbers; 
 4 recovery choice by the paper's count: the same.
 5 identify: n; how many refreshes of key columns that were empty, each: row, column, batch; the batch to identify;
   the code, the set.
+6 handlers in a run: n own simple super; how many events on a table that was empty, each: tag (1 PreAccept, 2 Accept,
+  3 CommitNotice, 4 AcceptReply, 5 ExpPrepare, 8 Lead), for 1 to 3 peer, row, column, ballot, sequence, set of n rows,
+  batch, for 4 and 5 peer, row, column, ballot, for 8 row, column; then what it did: the code, how many records, each:
+  what (1 log, 2 CommitNotice to all, 5 ExpPrepareReply), the peer it goes to and the ballot it was asked with (0 where
+  none), row, column, ballot, status, sequence, set, batch; after the last event the table: per row its length and bar,
+  each slot: ballot, status, sequence, set, batch, source (0 none, or a peer and one), led, marks (a bit a replica);
+  how many keys have columns, each: key, set.
 A batch: its count, then per request client, id, kind: 0 other, 1 put, then key and value, 2 get, then key.
-Codes: 100 done, 104 wait, 105 Committed, 106 Accepting, 107 PreAccepting. After a wait all is 0.
+Codes: 100 done, 101 ignored, 104 wait, 105 Committed, 106 Accepting, 107 PreAccepting, below 100 a refusal's number.
+After a wait all is 0. A status: 0 Null, 1 PreAccepting, 2 Accepting, 3 Committed, 4 Executed.
 ";
 
 const IDENTIFY: u64 = 5;
+const RUN: u64 = 6;
+
+const IGNORED: u64 = 101;
 
 #[derive(Default)]
 struct Line(Vec<u64>);
@@ -102,6 +114,55 @@ impl Line {
         }
     }
 
+    fn put_event(&mut self, event: &Event) -> Result<(), String> {
+        match event {
+            Event::Store { what, peer, at, ballot, seq, deps, batch } => {
+                self.put([*what as u64 + 1, *peer, at.row, at.col, *ballot, *seq]);
+                self.put(deps.iter().copied());
+                self.put_batch(batch);
+            }
+            Event::AcceptReply { peer, at, ballot } => self.put([4, *peer, at.row, at.col, *ballot]),
+            Event::ExpPrepare { peer, at, ballot } => self.put([5, *peer, at.row, at.col, *ballot]),
+            Event::Lead { at } => self.put([8, at.row, at.col]),
+            Event::Logged { .. } | Event::Attempt { .. } => return Err(format!("no event of a run: {event:?}")),
+        }
+        Ok(())
+    }
+
+    fn put_record(&mut self, record: &Output) -> Result<(), String> {
+        let (head, slot, ballot, status, contents) = match record {
+            Output::Log { status, slot, ballot, contents } => ([1, 0, 0], slot, ballot, *status, contents),
+            Output::CommitNotice { slot, ballot, contents } => ([2, 0, 0], slot, ballot, Status::Committed, contents),
+            Output::ExpPrepareReply { to, slot, new_ballot, ballot, status, contents } => {
+                ([5, *to as u64, *new_ballot], slot, ballot, *status, contents)
+            }
+            _ => return Err(format!("no record of a run: {record:?}")),
+        };
+        self.put(head);
+        self.put([slot.0 as u64, slot.1 as u64, *ballot, status as u64]);
+        self.put_contents(contents);
+        Ok(())
+    }
+
+    fn put_slot(&mut self, slot: &Slot) {
+        self.put([slot.ballot, slot.status as u64]);
+        self.put_contents(&slot.contents);
+        let source = slot.source.map_or(0, |peer| peer as u64 + 1);
+        self.put([source, u64::from(slot.marks.is_some()), slot.marks.unwrap_or(0)]);
+    }
+
+    fn put_table(&mut self, table: &Table) {
+        for (slots, bar) in table.rows.iter().zip(&table.bars) {
+            self.put([slots.len() as u64, *bar as u64]);
+            slots.iter().for_each(|slot| self.put_slot(slot));
+        }
+        self.put([table.keys.len() as u64]);
+        for (key, set) in &table.keys {
+            self.put([*key]);
+            self.put_set(set);
+        }
+    }
+
     fn text(&self) -> String {
         self.0.iter().map(u64::to_string).collect::<Vec<_>>().join(" ")
     }
@@ -128,4 +189,33 @@ pub fn identify(n: usize, stores: &[(SlotAt, Vec<Request>)], batch: &[Request], 
     line.put([DONE]);
     line.put_set(set);
     line.text()
+}
+
+fn code(answer: Answered) -> Result<u64, String> {
+    match answer {
+        Answered::Refused(number) => Ok(u64::from(number)),
+        Answered::Done => Ok(DONE),
+        Answered::Ignored => Ok(IGNORED),
+        Answered::NotYet | Answered::Already => Err(format!("no answer of a run: {answer:?}")),
+    }
+}
+
+/// Of a run of the handlers, which submit nothing and have nothing put back.
+pub fn run(run: &Run) -> Result<String, String> {
+    let mut line = Line::default();
+    line.put([RUN]);
+    line.put(numbers_of(&run.config));
+    line.put([run.events.len() as u64]);
+    for (event, did) in &run.events {
+        if !did.submitted.is_empty() || !did.put_back.is_empty() {
+            return Err(format!("{event:?} did more than a handler does: {did:?}"));
+        }
+        line.put_event(event)?;
+        line.put([code(did.answer)?, did.output.len() as u64]);
+        for record in &did.output {
+            line.put_record(record)?;
+        }
+    }
+    line.put_table(&run.table);
+    Ok(line.text())
 }

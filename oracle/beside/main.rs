@@ -12,6 +12,7 @@ mod freeze;
 mod list;
 mod random;
 mod refused;
+mod runs;
 mod rust_says;
 mod spoil;
 mod tally;

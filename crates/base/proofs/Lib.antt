@@ -1,4 +1,6 @@
 pub mod Outcome
+pub mod Tests
+pub mod RefusalLaws
 pub mod Lists
 pub mod Loops
 pub mod ConfigLaws

@@ -1,5 +1,6 @@
 pub mod Below
 pub mod Refusals
+pub mod Answer
 pub mod Config
 pub mod Status
 pub mod Marks

@@ -1,13 +1,19 @@
 -- The numbers of the refusals.
+use mathlib.Core.List.{List, [], _∷_}
+use mathlib.Core.Bool.{Bool, cond}
 use Prim.Native.Nat.{ℕ}
 
--- a configuration outside its bounds
+-- a configuration or table outside the bounds, or a bar past its row's slots
 abbrev pub outsideBounds : ℕ
 outsideBounds = 1
 
--- a row, reply, vote, ack or silent replica at N or more
+-- a peer, row, reply, vote, ack or silent replica at N or more
 abbrev pub noReplica : ℕ
 noReplica = 2
+
+-- a column 32 or more
+abbrev pub noColumn : ℕ
+noColumn = 3
 
 -- a dependency at column 32 or more, or in a row N or more
 abbrev pub badDependency : ℕ
@@ -17,6 +23,15 @@ badDependency = 4
 abbrev pub badBatch : ℕ
 badBatch = 5
 
--- a sequence over the limit
+-- a sequence, given or about to be stored, over the limit
 abbrev pub overLimit : ℕ
 overLimit = 6
+
+-- a log event or Lead for a slot not in the table
+abbrev pub noSlot : ℕ
+noSlot = 7
+
+-- tests in their order, each with the number of its refusal; the first that fails gives its own, and 0 is none
+unfoldable pub firstRefusal : List (Bool × ℕ) → ℕ
+firstRefusal [] = 0
+firstRefusal ((ok, number) ∷ rest) = cond ok (firstRefusal rest) number

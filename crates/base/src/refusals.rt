@@ -1,10 +1,14 @@
 // The numbers of the refusals.
-pub const OUTSIDE_BOUNDS: u64 = 1; // a configuration outside its bounds
+pub const OUTSIDE_BOUNDS: u64 = 1; // a configuration or table outside the bounds, or a bar past its row's slots
 
-pub const NO_REPLICA: u64 = 2; // a row, reply, vote, ack or silent replica at N or more
+pub const NO_REPLICA: u64 = 2; // a peer, row, reply, vote, ack or silent replica at N or more
+
+pub const NO_COLUMN: u64 = 3; // a column 32 or more
 
 pub const BAD_DEPENDENCY: u64 = 4; // a dependency at column 32 or more, or in a row N or more
 
 pub const BAD_BATCH: u64 = 5; // a batch over 4, or the key of a put or get above 255
 
-pub const OVER_LIMIT: u64 = 6; // a sequence over the limit
+pub const OVER_LIMIT: u64 = 6; // a sequence, given or about to be stored, over the limit
+
+pub const NO_SLOT: u64 = 7; // a log event or Lead for a slot not in the table

@@ -6,15 +6,21 @@ use Rattle.base.specs.Config.{configFits}
 use Rattle.base.specs.Marks.{countOf, marksFit}
 use Rattle.deps.specs.Sets.{setFits, greaterEach, unionOf, raisedTo, sameSet}
 use Rattle.deps.specs.Batches.{batchFits, sameRequest, sameBatch}
-use Rattle.deps.specs.Keys.{identifyOf, refreshedBy}
+use Rattle.keys.specs.Columns.{identifyOf, refreshedBy, keysFit}
 use Rattle.decisions.specs.Contents.{sameContents, joinOf, entriesOf}
 use Rattle.decisions.specs.Holder.{lowestBelow, highestBelow}
 use Rattle.decisions.specs.Refusal.{partsFit, refusalOf}
 use Rattle.decisions.specs.Identical.{firstEnough, mostEquals}
 use Rattle.decisions.specs.Fast.{joinedBelow, goneCount, fastDecision, fastAnswer}
 use Rattle.decisions.specs.Recovery.{highestVote, suchVotes, groupBy, choiceBy, answerBy}
+use Rattle.base.specs.Refusals.{firstRefusal}
+use Rattle.table.specs.Table.{emptyTable, holds, nullsIn, nullsTo, storedAt}
+use Rattle.table.specs.Bounds.{slotFits, rowFits, rowsFit, slotsFit, tableFits}
+use Rattle.table.specs.Highest.{isHeld, highestOf}
+use Rattle.handlers.specs.Refusal.{proposalRefusal}
+use Rattle.handlers.specs.Proposals.{raisedBy, proposed}
 use Rattle.cases.specs.Cases.{Claim, Every, cases}
 
 pub every-case : Every cases
-unfolding Claim Every cases unionOf greaterEach raisedTo identifyOf refreshedBy flatMap allBelow countBelow greatestBelow listBelow configFits countOf marksFit setFits sameSet batchFits sameRequest sameBatch sameContents joinOf entriesOf lowestBelow highestBelow partsFit refusalOf firstEnough mostEquals joinedBelow goneCount fastDecision fastAnswer highestVote suchVotes groupBy choiceBy answerBy
-every-case = (refl, (refl, (refl, (refl, (refl, (refl, (refl, (refl, (refl, (refl, (refl, (refl, (refl, (refl, (refl, (refl, (refl, (refl, (refl, (refl, (refl, (refl, (refl, tt)))))))))))))))))))))))
+unfolding Claim Every cases unionOf greaterEach raisedTo identifyOf refreshedBy flatMap allBelow countBelow greatestBelow listBelow configFits countOf marksFit setFits sameSet batchFits sameRequest sameBatch sameContents joinOf entriesOf lowestBelow highestBelow partsFit refusalOf firstEnough mostEquals joinedBelow goneCount fastDecision fastAnswer highestVote suchVotes groupBy choiceBy answerBy firstRefusal emptyTable holds nullsIn nullsTo storedAt slotFits rowFits rowsFit slotsFit tableFits keysFit isHeld highestOf proposalRefusal raisedBy proposed
+every-case = (refl, (refl, (refl, (refl, (refl, (refl, (refl, (refl, (refl, (refl, (refl, (refl, (refl, (refl, (refl, (refl, (refl, (refl, (refl, (refl, (refl, (refl, (refl, (record { answers = refl; held = refl; logs = refl }, (record { answers = refl; held = refl; logs = refl }, tt)))))))))))))))))))))))))

@@ -2,9 +2,10 @@
 use mathlib.Core.Path.{_≡_}
 use mathlib.Core.List.{List, [], _∷_}
 use mathlib.Core.Bool.{Bool, true, false}
+use Prim.Native.Nat.{ℕ}
 use Rattle.deps.specs.Sets.{Dep, nothing, column, unionOf}
 use Rattle.deps.specs.Batches.{batchOf}
-use Rattle.deps.specs.Keys.{identifyOf}
+use Rattle.keys.specs.Columns.{identifyOf}
 use Rattle.base.specs.declared.config.Config.{Config}
 use Rattle.base.specs.declared.status.Status.{Status}
 use Rattle.base.specs.declared.status.Status.the-variants.{Null, PreAccepting, Committed}
@@ -15,7 +16,7 @@ use Rattle.decisions.specs.Recovery.{choiceAnswer}
 use Rattle.decisions.specs.declared.contents.Contents.{Contents}
 use Rattle.decisions.specs.declared.recovery.Rule.{Rule}
 use Rattle.decisions.specs.declared.recovery.Rule.the-variants.{Rust, Paper}
-use Rattle.cases.specs.Notation.{rows, put, get, other, Stored, keysAfter, config, seven, Says, nothing-said, reply, vote, marks, seqs, cols, statuses, batches, contents, atDefault}
+use Rattle.cases.specs.Notation.{rows, put, get, other, Stored, keysAfter, config, seven, Says, nothing-said, reply, vote, marks, seqs, cols, statuses, batches, contents, atDefault, Holds, sentAgain, preAccepted}
 
 pub data Case : Type 0 where
   -- the union of two sets
@@ -26,6 +27,8 @@ pub data Case : Type 0 where
   fast : Config → List Says → List Bool → Decided → Case
   -- the choice by a rule, at N 3, simple 2, super 3, on row 0 at its default ballot, with these acks and votes
   recover : Rule → List Bool → List Says → Decided → Case
+  -- a PreAccept 0.0, ballot 5, sequence 1, empty, put, sent again so many times: sequence and dependencies
+  preAccepts : ℕ → ℕ → List Dep → Case
 
 -- what a case says
 unfoldable pub Claim : Case → Type 0
@@ -33,6 +36,7 @@ Claim (union a b r) = unionOf (rows a) (rows b) ≡ rows r
 Claim (identify past batch r) = identifyOf (keysAfter past) (batchOf batch) ≡ rows r
 Claim (fast c l silent d) = fastAnswer c false (marks l) (seqs l) (cols l) (seven false silent) ≡ d
 Claim (recover rule acks l d) = choiceAnswer rule (config 3 2 3) atDefault (seven false acks) (marks l) (statuses l) (seqs l) (cols l) (batches l) ≡ d
+Claim (preAccepts times seq deps) = Holds (sentAgain times) (preAccepted seq deps)
 
 unfoldable pub Every : List Case → Type 0
 Every [] = Unit
@@ -92,4 +96,6 @@ cases =
     ∷ recover Rust acks12 (nothing-said ∷ voteFor Committed ∷ vote Committed 6 [] (put 5 ∷ []) ∷ []) (committed (contents 6 [] (put 5 ∷ [])))
     ∷ recover Paper acks12 (nothing-said ∷ voteFor Committed ∷ vote Committed 6 [] (put 5 ∷ []) ∷ []) (committed (contents 6 [] (put 5 ∷ [])))
     ∷ recover Rust acks12 (nothing-said ∷ vote PreAccepting 4 [] (put 256 ∷ []) ∷ null ∷ []) (refused 5)
+    ∷ preAccepts 0 1 []
+    ∷ preAccepts 1 2 (column 0 ∷ [])
     ∷ []

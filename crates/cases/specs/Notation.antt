@@ -1,14 +1,16 @@
--- How the cases write sets, requests, what went before, replies and votes.
+-- How the cases write sets, requests, what went before, replies and votes, messages and slots.
 use mathlib.Core.List.{List, [], _∷_, _++_, map, foldl}
 use mathlib.Core.Bool.{Bool, true, false}
-use Prim.Native.Nat.{ℕ, suc, _-_}
+use mathlib.Core.Path.{_≡_}
+use Prim.Native.Nat.{ℕ, zero, suc, _-_}
 use lib.ListN.{length, replicate}
 use Rattle.deps.specs.Sets.{Dep, nothing, column, setOf}
 use Rattle.deps.specs.Batches.{batchOf, noOp}
-use Rattle.deps.specs.Keys.{emptyKeys, refreshedBy}
+use Rattle.keys.specs.Columns.{emptyKeys, refreshedBy}
 use Rattle.base.specs.declared.config.Config.{Config}
 use Rattle.base.specs.declared.status.Status.{Status}
-use Rattle.base.specs.declared.status.Status.the-variants.{Null}
+use Rattle.base.specs.declared.status.Status.the-variants.{Null, PreAccepting}
+use Rattle.base.specs.declared.answer.Answer.the-variants.{Done}
 use Rattle.deps.specs.declared.batches.Batch.{Batch}
 use Rattle.decisions.specs.Contents.{contentsOf}
 use Rattle.decisions.specs.declared.contents.Contents.{Contents}
@@ -16,7 +18,17 @@ use Rattle.decisions.specs.declared.recovery.Prepare.{Prepare}
 use Rattle.deps.specs.declared.sets.DepSet.{DepSet}
 use Rattle.deps.specs.declared.batches.Kind.the-variants.{Other, Put, Get}
 use Rattle.deps.specs.declared.batches.Request.{Request}
-use Rattle.deps.specs.declared.keys.Keys.{Keys}
+use Rattle.keys.specs.declared.columns.Keys.{Keys}
+use Rattle.table.specs.Place.{placeOf}
+use Rattle.table.specs.Slot.{nullSlot, storedWith, heardFrom}
+use Rattle.table.specs.Table.{emptyTable, slotOf}
+use Rattle.table.specs.declared.slot.Slot.{Slot}
+use Rattle.table.specs.declared.table.Table.{Table}
+use Rattle.handlers.specs.Output.{outputOf, logOf}
+use Rattle.handlers.specs.Outcome.{outcomeOf}
+use Rattle.handlers.specs.Proposals.{preAccept}
+use Rattle.handlers.specs.declared.message.Proposal.{Proposal}
+use Rattle.handlers.specs.declared.outcome.Outcome.{Outcome}
 
 -- [1,_,3] is 1 ∷ _ ∷ 3, row by row from row 0, and nothing in the rows after
 abbrev pub numberOf : Dep → ℕ
@@ -108,3 +120,25 @@ contents seq deps batch = contentsOf seq (rows deps) (batchOf batch)
 -- a prepare of row 0 whose highest ballot is the default one
 abbrev pub atDefault : Prepare
 atDefault = record { row = 0; highest = 7; default = 7 }
+
+-- a PreAccept of peer 1 for 0.0: ballot 5, sequence 1, no dependencies, a put
+abbrev pub first : Proposal
+first = record { message = record { peer = 1; at = placeOf 0 0; ballot = 5 }; seq = 1; deps = rows []; batch = batchOf (put 5 ∷ []) }
+
+abbrev pub sentTo : Table → Outcome
+sentTo t = outcomeOf t (preAccept t first)
+
+-- sent to an empty table, and then again so many times
+abbrev pub sentAgain : ℕ → Outcome
+sentAgain zero = sentTo (emptyTable (config 3 2 3))
+sentAgain (suc times) = sentTo (sentAgain times .table)
+
+-- the slot that it leaves, but for sequence and dependencies
+abbrev pub preAccepted : ℕ → List Dep → Slot
+preAccepted seq deps = heardFrom (storedWith nullSlot 5 PreAccepting seq (rows deps) (batchOf (put 5 ∷ []))) 1
+
+-- done, with 0.0 as the slot, and a log record of it
+pub record Holds (r : Outcome) (s : Slot) : Type 0 where
+  pub answers : r .answer ≡ Done
+  pub held : slotOf (r .table) (placeOf 0 0) ≡ s
+  pub logs : r .output ≡ outputOf (logOf (placeOf 0 0) s ∷ [])

@@ -3,8 +3,8 @@ use super::text;
 use deps::batches::Batch;
 use deps::batches::Kind;
 use deps::batches::Request;
-use deps::keys::Keys;
 use deps::sets::DepSet;
+use keys::columns::Keys;
 
 pub(crate) fn unions() {
     let a = DepSet {

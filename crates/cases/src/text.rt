@@ -1,11 +1,18 @@
-// What the program prints: words, sets as [1,_,3], batches, decisions, ends of lines.
+// What the program prints: words, sets as [1,_,3], batches, decisions, slots, records, ends of lines.
+use base::answer::Answer;
+use base::status::Status;
 use decisions::answer::Decision;
 use decisions::answer::Step;
 use decisions::contents::Contents;
 use deps::batches::Batch;
 use deps::batches::Kind;
 use deps::sets::DepSet;
+use handlers::output::Output;
+use handlers::output::Record;
+use handlers::output::What;
 use libc::STDOUT_FILENO;
+use table::place::Place;
+use table::table::Table;
 
 pub(crate) fn word(bytes: &[u8]) {
     io::write_all(STDOUT_FILENO, bytes);
@@ -63,8 +70,12 @@ fn batch(b: Batch) {
 fn contents(c: Contents) {
     let deps = c.deps;
     let with = c.batch;
+    values(c.seq, deps, with);
+}
+
+fn values(seq: u64, deps: DepSet, with: Batch) {
     word(b" (");
-    number(c.seq);
+    number(seq);
     word(b",");
     set(deps);
     word(b",");
@@ -89,9 +100,109 @@ pub(crate) fn decision(d: Decision) {
             word(b"PreAccepting");
             contents(with);
         }
-        Step::Refused { number } => {
-            word(b"refused ");
-            io::print_decimal(STDOUT_FILENO, number);
-        }
+        Step::Refused { number } => refused(number),
     }
+}
+
+fn refused(number: u64) {
+    word(b"refused ");
+    io::print_decimal(STDOUT_FILENO, number);
+}
+
+pub(crate) fn answer(a: Answer) {
+    match a {
+        Answer::Done => word(b"done"),
+        Answer::Ignored => word(b"ignored"),
+        Answer::NotYet => word(b"notyet"),
+        Answer::Already => word(b"already"),
+        Answer::Refused { number } => refused(number),
+    }
+}
+
+fn status(s: Status) {
+    match s {
+        Status::Null => word(b"Null"),
+        Status::PreAccepting => word(b"PreAccepting"),
+        Status::Accepting => word(b"Accepting"),
+        Status::Committed => word(b"Committed"),
+        Status::Executed => word(b"Executed"),
+    }
+}
+
+fn place(at: Place) {
+    number(at.row as u64);
+    word(b".");
+    number(at.col as u64);
+}
+
+// How many slots the row has, and the one at the place; nothing of a place that is not in the table.
+pub(crate) fn slot_at(table: Table, at: Place) {
+    if !table.holds(at) {
+        return;
+    }
+    let row = at.row;
+    if 7 <= row {
+        return;
+    }
+    if 32 <= at.col {
+        return;
+    }
+    word(b"; slot ");
+    place(at);
+    word(b" of ");
+    number(table.lens[row] as u64);
+    word(b" ");
+    let slot = table.slot(at);
+    let standing = slot.status;
+    status(standing);
+    let deps = slot.deps;
+    let with = slot.batch;
+    values(slot.seq as u64, deps, with);
+}
+
+// Each record that a call puts out.
+pub(crate) fn output(o: Output) {
+    if 0 < o.count {
+        let first = o.records[0];
+        one(first);
+    }
+    if 1 < o.count {
+        let second = o.records[1];
+        one(second);
+    }
+}
+
+fn one(r: Record) {
+    word(b"; ");
+    let kind = r.what;
+    what(kind);
+    let at = r.at;
+    place(at);
+    word(b" ballot ");
+    number(r.ballot);
+    word(b" ");
+    let standing = r.status;
+    status(standing);
+    let deps = r.deps;
+    let with = r.batch;
+    values(r.seq as u64, deps, with);
+}
+
+// Whom a record is for.
+fn what(w: What) {
+    match w {
+        What::Nothing => word(b"nothing "),
+        What::Log => word(b"log "),
+        What::CommitNotice => word(b"to all CommitNotice "),
+        What::PreAcceptReply { to } => reply(to, b" PreAcceptReply "),
+        What::AcceptReply { to } => reply(to, b" AcceptReply "),
+        What::ExpPrepareReply { to, asked: _ } => reply(to, b" ExpPrepareReply "),
+        What::NoteToSelf => word(b"to self "),
+    }
+}
+
+fn reply(to: usize, kind: &[u8]) {
+    word(b"to ");
+    number(to as u64);
+    word(kind);
 }

@@ -1,4 +1,2 @@
 pub mod SetLaws
 pub mod BatchLaws
-pub mod KeyLaws
-mod Nested

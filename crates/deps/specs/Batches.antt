@@ -65,26 +65,15 @@ sameAt a b i = sameRequest (request a i) (request b i)
 unfoldable pub sameBatch : Batch → Batch → Bool
 sameBatch a b = eqb (a .count) (b .count) && allBelow (min (a .count) 4) (sameAt a b)
 
--- the key that a put or get names, and the one that a put enters
+-- the key that a put or get names
 abbrev pub named : Kind → List ℕ
 named Other = []
 named (Put key value) = key ∷ []
 named (Get key) = key ∷ []
 
-abbrev pub entered : Kind → List ℕ
-entered Other = []
-entered (Put key value) = key ∷ []
-entered (Get key) = []
-
 abbrev pub keyNamed : Request → List ℕ
 keyNamed q = named (q .kind)
 
-abbrev pub keyEntered : Request → List ℕ
-keyEntered q = entered (q .kind)
-
--- the keys of all puts and gets, and the keys of all puts
+-- the keys of all puts and gets
 abbrev pub namedKeys : Batch → List ℕ
 namedKeys b = flatMap keyNamed (present b)
-
-abbrev pub putKeys : Batch → List ℕ
-putKeys b = flatMap keyEntered (present b)

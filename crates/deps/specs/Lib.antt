@@ -1,3 +1,2 @@
 pub mod Sets
 pub mod Batches
-pub mod Keys

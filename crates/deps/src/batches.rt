@@ -115,7 +115,7 @@ impl Batch {
     }
 
     // How many requests it holds: its count, and no more than there is room for.
-    pub(crate) fn held(self) -> usize
+    pub fn held(self) -> usize
         ensures { λ r. ⌜ r ≡ length (present self) ⌝ }
     {
         let count = self.count;

@@ -7,7 +7,7 @@ use super::outcome::agree;
 use super::parts::batch_at;
 use super::parts::set_at;
 use deps::batches::Batch;
-use deps::keys::Keys;
+use keys::columns::Keys;
 
 // Neither refresh nor identify has a C function, so they have no number of their own: what they do is done.
 const DONE: u64 = 100;

@@ -32,6 +32,26 @@ impl Outcome {
         }
         self.agree
     }
+
+    // What comes after it in the same case: the numbers are those of the first of the two that is not right, and contents
+    // that differ stay so.
+    pub(crate) fn then(self, later: Outcome) -> Outcome {
+        if self.is_right() {
+            return later;
+        }
+        Outcome {
+            answers: self.answers,
+            listed: self.listed,
+            agree: self.agree && later.agree,
+            next: later.next,
+        }
+    }
+}
+
+// Whether something is as the list has it, and the place after it there.
+pub struct Same {
+    pub agree: bool,
+    pub next: usize,
 }
 
 // Whether out, as the function leaves it, has the list's contents. Where there is nothing to go on with, out stays as it was

@@ -8,6 +8,7 @@ use super::list::after_head;
 use super::list::first_line;
 use super::list::number_at;
 use super::outcome::Outcome;
+use super::run;
 use super::tally::Tally;
 use super::text;
 use super::union;
@@ -42,6 +43,7 @@ fn case(list: &[u8], kind: u64, at: usize) -> Outcome {
         3 => choice::case(list, at, Rule::Rust),
         4 => choice::case(list, at, Rule::Paper),
         5 => identify::case(list, at),
+        6 => run::case(list, at),
         _ => Outcome::NONE,
     }
 }

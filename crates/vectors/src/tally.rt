@@ -5,7 +5,7 @@ use super::text;
 use std::num::wrapping_add_u64;
 
 // One more than the number of the last kind.
-const KINDS: usize = 6;
+const KINDS: usize = 7;
 
 pub struct Tally {
     pub of_kind: [u64; KINDS], // by the kind's number
@@ -50,6 +50,7 @@ impl Tally {
         text::line(b"recovery choice, the Rust's counts ", self.of_kind[3]);
         text::line(b"recovery choice, the paper's count ", self.of_kind[4]);
         text::line(b"identify after refreshes ", self.of_kind[5]);
+        text::line(b"handlers in a run ", self.of_kind[6]);
         text::number(self.cases);
         text::word(b" cases, ");
         text::number(self.differences);

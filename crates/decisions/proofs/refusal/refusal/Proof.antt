@@ -1,18 +1,10 @@
 -- `decisions::refusal::refusal` meets its contract: each stage is reached when those before it let pass.
-use mathlib.Core.Path.{_≡_, sym, _∙_}
-use mathlib.Core.Bool.{Bool, true, false, not}
 use borrow.Author.Tests.{not-true, not-false}
+use Rattle.base.proofs.Tests.{passed, failed}
 use Rattle.decisions.specs.Refusal.{refusalOf}
 use borrow.Author.Needs.{needs}
 use Rattle.decisions.proofs.refusal.refusal.Statement.{statement}
 use Rattle.decisions.proofs.refusal.refusal.Tie as tie
-
--- what a test of `!x` says of what x is
-passed : {x y : Bool} → x ≡ y → not x ≡ false → y ≡ true
-passed {x} e h = sym e ∙ not-false x h
-
-failed : {x y : Bool} → x ≡ y → not x ≡ true → y ≡ false
-failed {x} e h = sym e ∙ not-true x h
 
 fits-requires : tie.Need-fits-requires
 fits-requires c κs = search needs

@@ -1,0 +1,7 @@
+pub mod OutcomeLaws
+pub mod RefusalLaws
+pub mod TestLaws
+pub mod CaseLaws
+pub mod RefusedLaws
+pub mod KeptLaws
+pub mod StoredLaws

@@ -1,0 +1,35 @@
+-- AcceptReply.
+use mathlib.Core.List.{[], _∷_}
+use mathlib.Core.Bool.{Bool, cond, not, _&&_}
+use lib.Dec.{leb, eqb}
+use Rattle.base.specs.Marks.{marked, countOf}
+use Rattle.base.specs.Status.{rankOf}
+use Rattle.base.specs.declared.status.Status.the-variants.{Accepting}
+use Rattle.table.specs.Slot.{withMark, committed}
+use Rattle.table.specs.Table.{holds, slotOf, putAt}
+use Rattle.table.specs.declared.place.Place.{Place}
+use Rattle.table.specs.declared.slot.Slot.{Slot}
+use Rattle.table.specs.declared.table.Table.{Table}
+use Rattle.handlers.specs.Output.{logOf, noticeOf}
+use Rattle.handlers.specs.Outcome.{Handled, ignored, done, unlessRefused}
+use Rattle.handlers.specs.Refusal.{messageRefusal}
+use Rattle.handlers.specs.declared.message.Message.{Message}
+
+-- Accepting, of this ballot, led, and the peer not yet marked
+unfoldable pub heeds : Slot → Message → Bool
+heeds s m = eqb (rankOf (s .status)) (rankOf Accepting) && (eqb (s .ballot) (m .ballot) && (s .led && not (marked (s .marks) (m .peer))))
+
+-- with at least simple marks: Committed, log record, then a CommitNotice broadcast
+unfoldable pub onMark : Table → Place → Slot → Handled
+onMark t at s =
+    cond (leb (t .config .simple) (countOf (s .marks)))
+    (done (putAt t at (committed s)) (logOf at (committed s) ∷ noticeOf at (committed s) ∷ []))
+    (done (putAt t at s) [])
+
+-- ignored where the slot is absent or does not heed it; else a mark
+abbrev pub onHeld : Table → Message → Handled
+onHeld t m =
+    cond (holds t (m .at) && heeds (slotOf t (m .at)) m) (onMark t (m .at) (withMark (slotOf t (m .at)) (m .peer))) (ignored t)
+
+unfoldable pub acceptReply : Table → Message → Handled
+acceptReply t m = unlessRefused (messageRefusal t m) (onHeld t m)

@@ -1,0 +1,6 @@
+pub mod Place
+pub mod Slot
+pub mod Table
+pub mod Bounds
+pub mod Highest
+pub mod Open

@@ -1,0 +1,98 @@
+-- A slot, and what is done to one.
+use mathlib.Core.List.{[]}
+use mathlib.Core.Bool.{true, false}
+use Prim.Native.Nat.{ℕ, suc}
+use lib.ListN.{replicate, set}
+use Rattle.base.specs.declared.status.Status.{Status}
+use Rattle.base.specs.declared.status.Status.the-variants.{Null, Committed}
+use Rattle.deps.specs.Sets.{setOf, emptySet}
+use Rattle.deps.specs.Batches.{noOp}
+use Rattle.deps.specs.declared.sets.DepSet.{DepSet}
+use Rattle.deps.specs.declared.batches.Batch.{Batch}
+use Rattle.table.specs.declared.slot.Slot.{Slot}
+
+-- ballot 0, Null, sequence 0, nothing else
+abbrev pub nullSlot : Slot
+nullSlot =
+    record {
+      ballot = 0;
+      status = Null;
+      seq = 0;
+      deps = emptySet;
+      batch = noOp;
+      source = 0;
+      led = false;
+      marks = replicate 7 false;
+    }
+
+-- what is read past the slots, where there is not even a row
+abbrev pub blankSlot : Slot
+blankSlot =
+    record {
+      ballot = 0;
+      status = Null;
+      seq = 0;
+      deps = setOf [];
+      batch = record { count = 0; reqs = [] };
+      source = 0;
+      led = false;
+      marks = [];
+    }
+
+-- ballot, status, sequence, dependencies and batch stored
+abbrev pub storedWith : Slot → ℕ → Status → ℕ → DepSet → Batch → Slot
+storedWith s ballot status seq deps batch =
+    record {
+      ballot = ballot;
+      status = status;
+      seq = seq;
+      deps = deps;
+      batch = batch;
+      source = s .source;
+      led = s .led;
+      marks = s .marks;
+    }
+
+-- the source is 0 for none, p + 1 for the peer p
+abbrev pub heardFrom : Slot → ℕ → Slot
+heardFrom s peer =
+    record {
+      ballot = s .ballot;
+      status = s .status;
+      seq = s .seq;
+      deps = s .deps;
+      batch = s .batch;
+      source = suc peer;
+      led = s .led;
+      marks = s .marks;
+    }
+
+-- led, no accept marks
+abbrev pub leading : Slot → Slot
+leading s =
+    record {
+      ballot = s .ballot;
+      status = s .status;
+      seq = s .seq;
+      deps = s .deps;
+      batch = s .batch;
+      source = s .source;
+      led = true;
+      marks = replicate 7 false;
+    }
+
+abbrev pub withMark : Slot → ℕ → Slot
+withMark s peer =
+    record {
+      ballot = s .ballot;
+      status = s .status;
+      seq = s .seq;
+      deps = s .deps;
+      batch = s .batch;
+      source = s .source;
+      led = s .led;
+      marks = set (s .marks) peer true;
+    }
+
+abbrev pub committed : Slot → Slot
+committed s = storedWith s (s .ballot) Committed (s .seq) (s .deps) (s .batch)

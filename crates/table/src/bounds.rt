@@ -1,0 +1,69 @@
+// Refusal 1: whether a table is within the bounds.
+ghost use mathlib.Core.Path.{_≡_};
+ghost use Rattle.table.specs.Bounds.{rowFits, rowsFit, slotsFit, tableFits};
+use super::table::Table;
+
+impl Table {
+    // The one test, for every entry.
+    pub fn fits(self) -> bool
+        ensures { λ r. ⌜ r ≡ tableFits self ⌝ }
+    {
+        let config = self.config;
+        if !config.fits() {
+            return false;
+        }
+        let lens = self.lens;
+        let bars = self.bars;
+        if !rows_fit(config.n, lens, bars) {
+            return false;
+        }
+        if !self.slots_fit() {
+            return false;
+        }
+        let keys = self.keys;
+        keys.fits(config.n)
+    }
+
+    // Every slot that the table holds.
+    fn slots_fit(self) -> bool
+        ensures { λ r. ⌜ r ≡ slotsFit self ⌝ }
+    {
+        let config = self.config;
+        let mut i: usize = 0;
+        while i < 224 {
+            if i % 32 < self.lens[i / 32] {
+                let slot = self.slots[i];
+                if !slot.fits(config.n) {
+                    return false;
+                }
+            }
+            i += 1;
+        }
+        true
+    }
+}
+
+// Every row's length and bar.
+fn rows_fit(n: usize, lens: [usize; 7], bars: [usize; 7]) -> bool
+    ensures { λ r. ⌜ r ≡ rowsFit n lens bars ⌝ }
+{
+    let mut row: usize = 0;
+    while row < 7 {
+        if !row_fits(n, row, lens[row], bars[row]) {
+            return false;
+        }
+        row += 1;
+    }
+    true
+}
+
+// At most 32 slots, and none in a row n or more; the bar not past them.
+fn row_fits(n: usize, row: usize, len: usize, bar: usize) -> bool
+    ensures { λ r. ⌜ r ≡ rowFits n row len bar ⌝ }
+{
+    let room = if row < n { 32 } else { 0 };
+    if room < len {
+        return false;
+    }
+    bar <= len
+}

@@ -1,0 +1,111 @@
+// A slot, by value.
+ghost use mathlib.Core.Path.{_≡_};
+ghost use Prim.Native.Nat.{_<_};
+ghost use Rattle.table.specs.Slot.{storedWith, heardFrom, committed, leading, withMark};
+ghost use Rattle.table.specs.Bounds.{slotFits};
+use base::marks;
+use base::status::Status;
+use deps::batches::Batch;
+use deps::sets::DepSet;
+
+// The sequence's limit is that of its type. A source is 0 for none, p + 1 for the peer p. A slot that is led has a leader's
+// accept marks; of one that is not they say nothing.
+pub struct Slot {
+    pub ballot: u64,
+    pub status: Status,
+    pub seq: u32,
+    pub deps: DepSet,
+    pub batch: Batch,
+    pub source: u8,
+    pub led: bool,
+    pub marks: [bool; 7],
+}
+
+impl Slot {
+    // A null slot, as one is added.
+    pub const NULL: Slot = Slot {
+        ballot: 0,
+        status: Status::Null,
+        seq: 0,
+        deps: DepSet::EMPTY,
+        batch: Batch::NO_OP,
+        source: 0,
+        led: false,
+        marks: [false; 7],
+    };
+
+    // Ballot, status and contents stored; source, lead and marks stay.
+    pub fn store(self, ballot: u64, status: Status, seq: u32, deps: DepSet, batch: Batch) -> Slot
+        ensures { λ r. ⌜ r ≡ storedWith self ballot status seq deps batch ⌝ }
+    {
+        let marks = self.marks;
+        Slot {
+            ballot: ballot,
+            status: status,
+            seq: seq,
+            deps: deps,
+            batch: batch,
+            source: self.source,
+            led: self.led,
+            marks: marks,
+        }
+    }
+
+    // The source is the peer.
+    pub fn hear(self, peer: usize) -> Slot
+        requires { ⌜ peer < 7 ⌝ }
+        ensures { λ r. ⌜ r ≡ heardFrom self peer ⌝ }
+    {
+        let mut out = self;
+        out.source = (peer + 1) as u8;
+        out
+    }
+
+    // Led, with no accept marks.
+    pub fn lead(self) -> Slot
+        ensures { λ r. ⌜ r ≡ leading self ⌝ }
+    {
+        let mut out = self;
+        out.led = true;
+        out.marks = [false; 7];
+        out
+    }
+
+    // The peer marked.
+    pub fn mark(self, peer: usize) -> Slot
+        requires { ⌜ peer < 7 ⌝ }
+        ensures { λ r. ⌜ r ≡ withMark self peer ⌝ }
+    {
+        let mut out = self;
+        out.marks[peer] = true;
+        out
+    }
+
+    // Committed, as it stands.
+    pub fn commit(self) -> Slot
+        ensures { λ r. ⌜ r ≡ committed self ⌝ }
+    {
+        let deps = self.deps;
+        let batch = self.batch;
+        self.store(self.ballot, Status::Committed, self.seq, deps, batch)
+    }
+
+    // Within the bounds of n rows.
+    pub fn fits(self, n: usize) -> bool
+        ensures { λ r. ⌜ r ≡ slotFits n self ⌝ }
+    {
+        if n < self.source as usize {
+            return false;
+        }
+        let deps = self.deps;
+        if !deps.fits(n) {
+            return false;
+        }
+        let batch = self.batch;
+        if !batch.fits() {
+            return false;
+        }
+        let marks = self.marks;
+        marks::fit(marks, n)
+    }
+}
