@@ -53,134 +53,126 @@ fn show(what: &[u8], at: Place, outcome: Outcome) -> Table {
     table
 }
 
+// Each case goes on with the table that the one before it leaves, so that one table is kept at a time.
 pub(crate) fn pre_accepts() {
+    let mut table = empty();
     let head = from(1, 0, 0, 5);
     let at = head.at;
     let sent = put(head, 1, 5);
-    let once = show(
+    table = show(
         b"PreAccept 0.0, ballot 5, sequence 1",
         at,
-        proposals::pre_accept(empty(), sent),
+        proposals::pre_accept(table, sent),
     );
-    let twice = show(b"sent again", at, proposals::pre_accept(once, sent));
+    table = show(b"sent again", at, proposals::pre_accept(table, sent));
     let late = put(from(1, 0, 0, 4), 1, 5);
-    show(b"with ballot 4", at, proposals::pre_accept(twice, late));
+    show(b"with ballot 4", at, proposals::pre_accept(table, late));
 }
 
 pub(crate) fn prepares() {
-    let none = from(2, 1, 2, 0);
-    let last = none.at;
-    let asked = show(
+    let mut table = empty();
+    let third = from(2, 1, 2, 0);
+    let last = third.at;
+    table = show(
         b"ExpPrepare 1.2, ballot 0",
         last,
-        prepare::exp_prepare(empty(), none),
+        prepare::exp_prepare(table, third),
     );
     let second = from(2, 1, 1, 0);
     let middle = second.at;
-    let same = show(
+    table = show(
         b"then ExpPrepare 1.1, ballot 0",
         middle,
-        prepare::exp_prepare(asked, second),
+        prepare::exp_prepare(table, second),
     );
     let first = from(2, 1, 0, 9);
     let at = first.at;
-    let replied = show(
+    table = show(
         b"then ExpPrepare 1.0, ballot 9",
         at,
-        prepare::exp_prepare(same, first),
+        prepare::exp_prepare(table, first),
     );
     let low = put(from(1, 1, 0, 1), 1, 5);
     show(
         b"then Accept 1.0, ballot 1",
         at,
-        proposals::accept(replied, low),
+        proposals::accept(table, low),
     );
 }
 
 // The last column and key, and the first past them.
 pub(crate) fn edges() {
+    let mut table = empty();
     let last = from(1, 0, 31, 5);
     let at = last.at;
-    let full = show(
-        b"PreAccept 0.31",
+    table = show(
+        b"PreAccept 0.31, key 255",
         at,
-        proposals::pre_accept(empty(), put(last, 1, 5)),
+        proposals::pre_accept(table, put(last, 1, 255)),
+    );
+    table = show(
+        b"then key 256",
+        at,
+        proposals::pre_accept(table, put(last, 1, 256)),
     );
     let past = from(1, 0, 32, 5);
     let none = past.at;
     show(
         b"then PreAccept 0.32",
         none,
-        proposals::pre_accept(full, put(past, 1, 5)),
-    );
-    let head = from(1, 0, 0, 5);
-    let first = head.at;
-    let held = show(
-        b"PreAccept 0.0, key 255",
-        first,
-        proposals::pre_accept(empty(), put(head, 1, 255)),
-    );
-    show(
-        b"then key 256",
-        first,
-        proposals::pre_accept(held, put(head, 1, 256)),
+        proposals::pre_accept(table, put(past, 1, 5)),
     );
 }
 
 // A slot that is led is committed by the second mark.
 pub(crate) fn marks() {
+    let mut table = empty();
     let head = from(1, 0, 0, 5);
     let at = head.at;
-    show(b"Lead 0.0, absent", at, lead::lead(empty(), at));
-    let stored = show(
-        b"Accept 0.0",
-        at,
-        proposals::accept(empty(), put(head, 1, 5)),
-    );
-    let early = show(
+    table = show(b"Lead 0.0, absent", at, lead::lead(table, at));
+    table = show(b"Accept 0.0", at, proposals::accept(table, put(head, 1, 5)));
+    table = show(
         b"AcceptReply of 1, not led",
         at,
-        replies::accept_reply(stored, head),
+        replies::accept_reply(table, head),
     );
-    let led = show(b"Lead 0.0", at, lead::lead(early, at));
-    let one = show(b"AcceptReply of 1", at, replies::accept_reply(led, head));
-    let again = show(
+    table = show(b"Lead 0.0", at, lead::lead(table, at));
+    table = show(b"AcceptReply of 1", at, replies::accept_reply(table, head));
+    table = show(
         b"AcceptReply of 1 again",
         at,
-        replies::accept_reply(one, head),
+        replies::accept_reply(table, head),
     );
     let other = from(2, 0, 0, 5);
-    show(b"AcceptReply of 2", at, replies::accept_reply(again, other));
+    show(b"AcceptReply of 2", at, replies::accept_reply(table, other));
 }
 
 // The sequence given is looked at before the ballot, the one to be stored after it; neither adds a slot.
 pub(crate) fn sequences() {
+    let mut table = empty();
     let head = from(1, 0, 0, 5);
     let at = head.at;
     let over = put(head, 4294967296, 5);
-    show(
+    table = show(
         b"CommitNotice 0.0, sequence 2^32",
         at,
-        proposals::commit_notice(empty(), over),
+        proposals::commit_notice(table, over),
     );
     let most = put(head, 4294967295, 5);
-    let full = show(
+    table = show(
         b"CommitNotice 0.0, sequence 2^32 - 1",
         at,
-        proposals::commit_notice(empty(), most),
+        proposals::commit_notice(table, most),
     );
     let next = from(1, 0, 1, 5);
     let second = next.at;
-    show(
+    let small = put(next, 1, 5);
+    table = show(
         b"then PreAccept 0.1",
         second,
-        proposals::pre_accept(full, put(next, 1, 5)),
+        proposals::pre_accept(table, small),
     );
-    show(
-        b"then Accept 0.1",
-        second,
-        proposals::accept(full, put(next, 1, 5)),
-    );
+    show(b"then Accept 0.1", second, proposals::accept(table, small));
 }
 
 // A table of a configuration that is refused is refused by every entry.
