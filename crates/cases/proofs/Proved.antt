@@ -15,7 +15,8 @@ use Rattle.decisions.specs.Fast.{joinedBelow, goneCount, fastDecision, fastAnsw
 use Rattle.decisions.specs.Recovery.{highestVote, suchVotes, groupBy, choiceBy, answerBy}
 use Rattle.base.specs.Refusals.{firstRefusal}
 use Rattle.table.specs.Table.{emptyTable, holds, nullsIn, nullsTo, storedAt}
-use Rattle.table.specs.Bounds.{slotFits, rowFits, rowsFit, slotsFit, tableFits}
+use Rattle.table.specs.Bounds.{rowFits, rowsFit, slotsFit, tableFits}
+use Rattle.slots.specs.Slot.{slotFits}
 use Rattle.table.specs.Highest.{isHeld, highestOf}
 use Rattle.handlers.specs.Refusal.{proposalRefusal}
 use Rattle.handlers.specs.Proposals.{raisedBy, proposed}

@@ -20,9 +20,9 @@ use Rattle.deps.specs.declared.batches.Kind.the-variants.{Other, Put, Get}
 use Rattle.deps.specs.declared.batches.Request.{Request}
 use Rattle.keys.specs.declared.columns.Keys.{Keys}
 use Rattle.table.specs.Place.{placeOf}
-use Rattle.table.specs.Slot.{nullSlot, storedWith, heardFrom}
+use Rattle.slots.specs.Slot.{nullSlot, storedWith, heardFrom}
 use Rattle.table.specs.Table.{emptyTable, slotOf}
-use Rattle.table.specs.declared.slot.Slot.{Slot}
+use Rattle.slots.specs.declared.slot.Slot.{Slot}
 use Rattle.table.specs.declared.table.Table.{Table}
 use Rattle.handlers.specs.Output.{outputOf, logOf}
 use Rattle.handlers.specs.Outcome.{outcomeOf}

@@ -9,10 +9,10 @@ use lib.Dec.{ltb, leb}
 use Rattle.base.specs.Refusals.{overLimit}
 use Rattle.base.specs.Marks.{countOf}
 use Rattle.base.proofs.Loops.{both-true}
-use Rattle.table.specs.Slot.{leading, withMark, committed}
+use Rattle.slots.specs.Slot.{leading, withMark, committed}
 use Rattle.table.specs.Table.{holds, slotOf, putAt, nullsTo}
 use Rattle.table.specs.declared.place.Place.{Place}
-use Rattle.table.specs.declared.slot.Slot.{Slot}
+use Rattle.slots.specs.declared.slot.Slot.{Slot}
 use Rattle.table.specs.declared.table.Table.{Table}
 use Rattle.handlers.specs.Output.{logOf, noticeOf}
 use Rattle.handlers.specs.Outcome.{Handled, refused, ignored, done, unlessRefused}

@@ -7,14 +7,15 @@ use Rattle.base.specs.declared.status.Status.the-variants.{PreAccepting, Accept
 use Rattle.deps.specs.Sets.{setFits}
 use Rattle.deps.proofs.SetLaws.{union-fits}
 use Rattle.keys.proofs.KeyLaws.{identify-fits}
-use Rattle.table.specs.Slot.{storedWith, heardFrom, leading, committed}
+use Rattle.slots.specs.Slot.{storedWith, heardFrom, leading, committed, slotFits}
 use Rattle.table.specs.Table.{slotOf, putAt, storedAt}
-use Rattle.table.specs.Bounds.{slotFits, tableFits}
+use Rattle.table.specs.Bounds.{tableFits}
 use Rattle.table.specs.declared.place.Place.{Place}
-use Rattle.table.specs.declared.slot.Slot.{Slot}
+use Rattle.slots.specs.declared.slot.Slot.{Slot}
 use Rattle.table.specs.declared.table.Table.{Table}
 use Rattle.table.proofs.SlotReads.{nulls-config, nulls-keys, nulls-holds}
-use Rattle.table.proofs.BoundLaws.{table-fits-each, stored-slot-fits, heard-fits, led-fits, marked-fits, committed-fits, held-slot-fits, put-keeps, stored-keeps, nulls-keep}
+use Rattle.table.proofs.BoundLaws.{table-fits-each, held-slot-fits, put-keeps, stored-keeps, nulls-keep}
+use Rattle.slots.proofs.SlotLaws.{stored-slot-fits, heard-fits, led-fits, marked-fits, committed-fits}
 use Rattle.handlers.specs.Outcome.{Handled, refused, ignored, done, outcomeOf}
 use Rattle.handlers.specs.Proposals.{raisedBy, proposed}
 use Rattle.handlers.specs.Replies.{acceptReply}

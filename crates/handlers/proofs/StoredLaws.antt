@@ -18,10 +18,10 @@ use Rattle.deps.proofs.SetLaws.{union-left, union-right}
 use Rattle.keys.specs.Columns.{identifyOf, refreshedBy}
 use Rattle.keys.specs.declared.columns.Keys.{Keys}
 use Rattle.table.specs.Place.{placeOf, indexOf}
-use Rattle.table.specs.Slot.{heardFrom, leading, committed}
+use Rattle.slots.specs.Slot.{heardFrom, leading, committed}
 use Rattle.table.specs.Table.{lenOf, holds, slotNo, slotOf, putAt, storedAt, nullsTo}
 use Rattle.table.specs.declared.place.Place.{Place}
-use Rattle.table.specs.declared.slot.Slot.{Slot}
+use Rattle.slots.specs.declared.slot.Slot.{Slot}
 use Rattle.table.specs.declared.table.Table.{Table}
 use Rattle.table.proofs.SlotReads.{holds-each, each-holds, put-there, put-elsewhere, stored-there, stored-elsewhere, stored-config, stored-lens, stored-bars, stored-keys, grown, grown-len, grown-len-other, nulls-cases, nulls-config, nulls-bars, nulls-keys, nulls-length, nulls-kept}
 use Rattle.table.proofs.HighestLaws.{highest-at}

@@ -4,7 +4,7 @@ use mathlib.Core.Bool.{true, false}
 use Prim.Native.Nat.{_<_, _≤_}
 use borrow.Author.Tests.{lt-ltb, le-ltb, lt-leb, le-leb}
 use Rattle.base.specs.Refusals.{overLimit}
-use Rattle.table.specs.Slot.{withMark}
+use Rattle.slots.specs.Slot.{withMark}
 use Rattle.table.specs.Table.{holds, slotOf}
 use Rattle.table.specs.declared.table.Table.{Table}
 use Rattle.handlers.specs.Outcome.{refused, ignored}

@@ -1,6 +1,6 @@
 -- Lead: marks the slot led, no accept marks.
 use mathlib.Core.List.{[]}
-use Rattle.table.specs.Slot.{leading}
+use Rattle.slots.specs.Slot.{leading}
 use Rattle.table.specs.Table.{slotOf, putAt}
 use Rattle.table.specs.declared.place.Place.{Place}
 use Rattle.table.specs.declared.table.Table.{Table}

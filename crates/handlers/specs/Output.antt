@@ -7,7 +7,7 @@ use Rattle.deps.specs.Sets.{emptySet}
 use Rattle.deps.specs.Batches.{noOp}
 use Rattle.table.specs.Place.{placeOf}
 use Rattle.table.specs.declared.place.Place.{Place}
-use Rattle.table.specs.declared.slot.Slot.{Slot}
+use Rattle.slots.specs.declared.slot.Slot.{Slot}
 use Rattle.handlers.specs.declared.output.What.{What}
 use Rattle.handlers.specs.declared.output.What.the-variants.{Nothing, Log, CommitNotice, ExpPrepareReply}
 use Rattle.handlers.specs.declared.output.Record.{Record}

@@ -2,7 +2,7 @@
 use mathlib.Core.List.{[], _∷_}
 use mathlib.Core.Bool.{cond}
 use lib.Dec.{ltb}
-use Rattle.table.specs.Slot.{heardFrom}
+use Rattle.slots.specs.Slot.{heardFrom}
 use Rattle.table.specs.Table.{slotOf, nullsTo, putAt}
 use Rattle.table.specs.declared.table.Table.{Table}
 use Rattle.handlers.specs.Output.{replyOf}

@@ -9,11 +9,11 @@ use Rattle.deps.specs.Sets.{unionOf}
 use Rattle.deps.specs.declared.batches.Batch.{Batch}
 use Rattle.deps.specs.declared.sets.DepSet.{DepSet}
 use Rattle.keys.specs.Columns.{identifyOf}
-use Rattle.table.specs.Slot.{storedWith, heardFrom}
+use Rattle.slots.specs.Slot.{storedWith, heardFrom}
 use Rattle.table.specs.Table.{slotOf, nullsTo, storedAt}
 use Rattle.table.specs.Highest.{highestOf}
 use Rattle.table.specs.declared.place.Place.{Place}
-use Rattle.table.specs.declared.slot.Slot.{Slot}
+use Rattle.slots.specs.declared.slot.Slot.{Slot}
 use Rattle.table.specs.declared.table.Table.{Table}
 use Rattle.handlers.specs.Output.{logOf}
 use Rattle.handlers.specs.Outcome.{Handled, refused, ignored, done, unlessRefused}

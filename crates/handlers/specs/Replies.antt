@@ -5,10 +5,10 @@ use lib.Dec.{leb, eqb}
 use Rattle.base.specs.Marks.{marked, countOf}
 use Rattle.base.specs.Status.{rankOf}
 use Rattle.base.specs.declared.status.Status.the-variants.{Accepting}
-use Rattle.table.specs.Slot.{withMark, committed}
+use Rattle.slots.specs.Slot.{withMark, committed}
 use Rattle.table.specs.Table.{holds, slotOf, putAt}
 use Rattle.table.specs.declared.place.Place.{Place}
-use Rattle.table.specs.declared.slot.Slot.{Slot}
+use Rattle.slots.specs.declared.slot.Slot.{Slot}
 use Rattle.table.specs.declared.table.Table.{Table}
 use Rattle.handlers.specs.Output.{logOf, noticeOf}
 use Rattle.handlers.specs.Outcome.{Handled, ignored, done, unlessRefused}

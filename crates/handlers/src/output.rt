@@ -5,8 +5,8 @@ ghost use Rattle.handlers.specs.Output.{recordOf, outputOf};
 use base::status::Status;
 use deps::batches::Batch;
 use deps::sets::DepSet;
+use slots::slot::Slot;
 use table::place::Place;
-use table::slot::Slot;
 
 // A record for the log; a broadcast; a reply to a peer, of which an ExpPrepare's names the ballot it was asked with; a note
 // to self.

@@ -15,7 +15,7 @@ use base::refusals;
 use base::status::Status;
 use deps::batches::Batch;
 use deps::sets::DepSet;
-use table::slot::Slot;
+use slots::slot::Slot;
 use table::table::Table;
 
 // Which of the three it is.

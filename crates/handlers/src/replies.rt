@@ -11,8 +11,8 @@ use super::output::What;
 use super::refusal;
 use base::marks;
 use base::status::Status;
+use slots::slot::Slot;
 use table::place::Place;
-use table::slot::Slot;
 use table::table::Table;
 
 pub fn accept_reply(table: Table, message: Message) -> Outcome

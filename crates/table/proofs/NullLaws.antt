@@ -10,9 +10,9 @@ use lib.Dec.{eqb}
 use lib.ListN.{length, getD, set, length-set}
 use lib.Seq.{ext-getD, getD-set-same, getD-set-other}
 use Rattle.base.proofs.Loops.{length-below}
-use Rattle.table.specs.Slot.{nullSlot, blankSlot}
+use Rattle.slots.specs.Slot.{nullSlot, blankSlot}
 use Rattle.table.specs.Table.{nullIn, nullsIn}
-use Rattle.table.specs.declared.slot.Slot.{Slot}
+use Rattle.slots.specs.declared.slot.Slot.{Slot}
 use Rattle.table.specs.declared.table.Table.{Table}
 use Rattle.table.proofs.SlotReads.{null-between, kept-outside, null-or-kept}
 

@@ -13,7 +13,7 @@ use Rattle.base.proofs.ConfigLaws.{config-fits-each}
 use Rattle.deps.specs.Sets.{emptySet}
 use Rattle.keys.specs.Columns.{columnsOf}
 use Rattle.keys.proofs.KeyLaws.{empty-columns, empty-keys-fit}
-use Rattle.table.specs.Slot.{nullSlot, blankSlot}
+use Rattle.slots.specs.Slot.{nullSlot, blankSlot}
 use Rattle.table.specs.Table.{emptyTable, lenOf, barOf, holds, slotNo}
 use Rattle.table.specs.Bounds.{tableFits}
 use Rattle.table.specs.Open.{configOf, openOf}

@@ -12,10 +12,10 @@ use Rattle.base.proofs.Loops.{both-true, length-below, below-at}
 use Rattle.keys.specs.Columns.{refreshedBy, putKeys}
 use Rattle.keys.proofs.KeyLaws.{length-raise}
 use Rattle.table.specs.Place.{placeOf, indexOf}
-use Rattle.table.specs.Slot.{nullSlot, blankSlot}
+use Rattle.slots.specs.Slot.{nullSlot, blankSlot}
 use Rattle.table.specs.Table.{lenOf, holds, slotNo, slotOf, withSlots, withLens, putAt, nullIn, nullsIn, nullsTo, storedAt}
 use Rattle.table.specs.declared.place.Place.{Place}
-use Rattle.table.specs.declared.slot.Slot.{Slot}
+use Rattle.slots.specs.declared.slot.Slot.{Slot}
 use Rattle.table.specs.declared.table.Table.{Table}
 
 -- ---- a place and its index

@@ -6,17 +6,10 @@ use lib.ListN.{getD}
 use Prim.Native.Nat.{ℕ, _/_, _%_}
 use Rattle.base.specs.Below.{allBelow}
 use Rattle.base.specs.Config.{configFits}
-use Rattle.base.specs.Marks.{marksFit}
-use Rattle.deps.specs.Sets.{setFits}
-use Rattle.deps.specs.Batches.{batchFits}
 use Rattle.keys.specs.Columns.{keysFit}
+use Rattle.slots.specs.Slot.{slotFits}
 use Rattle.table.specs.Table.{lenOf, slotNo}
-use Rattle.table.specs.declared.slot.Slot.{Slot}
 use Rattle.table.specs.declared.table.Table.{Table}
-
--- source, dependencies, batch and marks within the bounds of n rows
-unfoldable pub slotFits : ℕ → Slot → Bool
-slotFits n s = leb (s .source) n && (setFits n (s .deps) && (batchFits (s .batch) && marksFit n (s .marks)))
 
 -- columns 0..31 in the rows below n, none in the others
 abbrev pub room : ℕ → ℕ → ℕ

@@ -1,5 +1,4 @@
 pub mod Place
-pub mod Slot
 pub mod Table
 pub mod Bounds
 pub mod Highest

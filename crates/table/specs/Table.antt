@@ -9,9 +9,9 @@ use Rattle.base.specs.declared.config.Config.{Config}
 use Rattle.keys.specs.Columns.{emptyKeys, refreshedBy}
 use Rattle.keys.specs.declared.columns.Keys.{Keys}
 use Rattle.table.specs.Place.{indexOf}
-use Rattle.table.specs.Slot.{nullSlot, blankSlot}
+use Rattle.slots.specs.Slot.{nullSlot, blankSlot}
 use Rattle.table.specs.declared.place.Place.{Place}
-use Rattle.table.specs.declared.slot.Slot.{Slot}
+use Rattle.slots.specs.declared.slot.Slot.{Slot}
 use Rattle.table.specs.declared.table.Table.{Table}
 
 abbrev pub tableOf : Config → List Slot → List ℕ → List ℕ → Keys → Table

@@ -4,11 +4,11 @@ ghost use Prim.Native.Nat.{_<_};
 ghost use Rattle.keys.specs.Columns.{identifyOf};
 ghost use Rattle.table.specs.Table.{emptyTable, holds, slotOf, putAt, nullsTo, storedAt};
 use super::place::Place;
-use super::slot::Slot;
 use base::config::Config;
 use deps::batches::Batch;
 use deps::sets::DepSet;
 use keys::columns::Keys;
+use slots::slot::Slot;
 
 // The slot of row r and column c stands at 32 * r + c. What stands past a row's length is nobody's.
 pub struct Table {

@@ -6,7 +6,7 @@ use super::parts::set_at;
 use deps::batches::Batch;
 use deps::sets::DepSet;
 use handlers::output::Record;
-use table::slot::Slot;
+use slots::slot::Slot;
 
 // The status by its rank.
 pub struct Contents {

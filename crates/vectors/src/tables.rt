@@ -7,7 +7,7 @@ use super::outcome::Same;
 use super::parts::set_at;
 use deps::sets::DepSet;
 use keys::columns::Keys;
-use table::slot::Slot;
+use slots::slot::Slot;
 use table::table::Table;
 
 pub struct ReadKeys {

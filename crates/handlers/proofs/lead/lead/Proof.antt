@@ -1,6 +1,6 @@
 -- `handlers::lead::lead` meets its contract: refused, or the slot in the table is led.
 use Rattle.base.specs.declared.answer.Answer.the-variants.{Done}
-use Rattle.table.specs.Slot.{leading}
+use Rattle.slots.specs.Slot.{leading}
 use Rattle.table.specs.Table.{putAt}
 use Rattle.table.specs.declared.table.Table.{Table}
 use Rattle.handlers.specs.Outcome.{outcome, outcomeOf}

@@ -1,8 +1,8 @@
 -- `handlers::prepare::exp_prepare` meets its contract: refused; or null slots are added, and then the ballot decides.
 use Rattle.base.specs.declared.answer.Answer.the-variants.{Done}
-use Rattle.table.specs.Slot.{heardFrom}
+use Rattle.slots.specs.Slot.{heardFrom}
 use Rattle.table.specs.Table.{putAt}
-use Rattle.table.specs.declared.slot.Slot.{Slot}
+use Rattle.slots.specs.declared.slot.Slot.{Slot}
 use Rattle.table.specs.declared.table.Table.{Table}
 use Rattle.handlers.specs.Output.{outputOf, replyOf}
 use Rattle.handlers.specs.Outcome.{outcome, doneWith, outcomeOf}

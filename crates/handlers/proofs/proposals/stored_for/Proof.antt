@@ -1,8 +1,8 @@
 -- `handlers::proposals::stored_for` meets its contract: one case for each phase.
 use Rattle.handlers.specs.Proposals.{storedFor}
 use Rattle.handlers.specs.declared.proposals.Phase.{Phase}
-use Rattle.table.specs.Slot.{heardFrom}
-use Rattle.table.specs.declared.slot.Slot.{Slot}
+use Rattle.slots.specs.Slot.{heardFrom}
+use Rattle.slots.specs.declared.slot.Slot.{Slot}
 use mathlib.Core.Path.{ap, sym, _∙_}
 use Prim.Native.Nat.{_-_}
 use borrow.Author.Needs.{needs}

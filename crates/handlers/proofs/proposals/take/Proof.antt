@@ -1,7 +1,7 @@
 -- `handlers::proposals::take` meets its contract: refused; or null slots are added, and then ballot and sequence decide.
 use Rattle.base.specs.declared.answer.Answer.the-variants.{Done}
 use Rattle.table.specs.Table.{slotOf, storedAt}
-use Rattle.table.specs.declared.slot.Slot.{Slot}
+use Rattle.slots.specs.declared.slot.Slot.{Slot}
 use Rattle.table.specs.declared.table.Table.{Table}
 use Rattle.handlers.specs.Output.{outputOf, logOf}
 use Rattle.handlers.specs.Outcome.{outcome, doneWith, outcomeOf}

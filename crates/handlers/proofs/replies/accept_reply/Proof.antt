@@ -1,8 +1,8 @@
 -- `handlers::replies::accept_reply` meets its contract: refused, ignored where the slot does not heed it, or a mark.
 use Rattle.base.proofs.Tests.{passed, failed}
-use Rattle.table.specs.Slot.{withMark}
+use Rattle.slots.specs.Slot.{withMark}
 use Rattle.table.specs.Table.{holds}
-use Rattle.table.specs.declared.slot.Slot.{Slot}
+use Rattle.slots.specs.declared.slot.Slot.{Slot}
 use Rattle.handlers.specs.Outcome.{outcomeOf}
 use Rattle.handlers.specs.Replies.{acceptReply, heeds, onMark, onHeld}
 use Rattle.handlers.specs.Refusal.{messageRefusal}

@@ -6,7 +6,7 @@ use Rattle.handlers.specs.declared.output.Record.{Record}
 use Rattle.base.specs.declared.answer.Answer.the-variants.{Done}
 use Rattle.table.specs.Table.{putAt}
 use Rattle.table.specs.declared.table.Table.{Table}
-use Rattle.table.specs.declared.slot.Slot.{Slot}
+use Rattle.slots.specs.declared.slot.Slot.{Slot}
 use mathlib.Core.Path.{ap, sym, _∙_}
 use mathlib.Core.List.{[], _∷_}
 use Prim.Native.Nat.{_-_}

@@ -1,7 +1,7 @@
 -- `table::table::Table::empty` meets its contract: the key columns are those of the empty ones.
 use Rattle.keys.specs.declared.columns.Keys.{Keys}
 use Rattle.table.specs.Table.{emptyTable, tableOf}
-use Rattle.table.specs.Slot.{nullSlot}
+use Rattle.slots.specs.Slot.{nullSlot}
 use lib.ListN.{replicate}
 use mathlib.Core.Path.{ap}
 use Prim.Native.Nat.{_-_}

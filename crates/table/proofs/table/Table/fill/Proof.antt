@@ -1,6 +1,6 @@
 -- `table::table::Table::fill` meets its contract: null slots from the row's length up to the column so far.
 use Rattle.base.proofs.Lists.{length-mapped}
-use Rattle.table.specs.Slot.{nullSlot}
+use Rattle.slots.specs.Slot.{nullSlot}
 use Rattle.table.specs.Table.{withSlots, withLens, nullsIn, nullsTo}
 use Rattle.table.specs.declared.table.Table.{Table}
 use Rattle.table.proofs.NullLaws.{nulls-none, nulls-more}

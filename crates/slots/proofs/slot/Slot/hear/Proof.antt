@@ -1,9 +1,9 @@
--- `table::slot::Slot::hear` meets its contract: a peer below 7 and one more is a byte.
+-- `slots::slot::Slot::hear` meets its contract: a peer below 7 and one more is a byte.
 use Prim.Native.Nat.{_-_}
 use native.Mathlib.Numerals.{add-one}
 use borrow.Author.Needs.{needs}
-use Rattle.table.proofs.slot.Slot.hear.Statement.{statement}
-use Rattle.table.proofs.slot.Slot.hear.Tie as tie
+use Rattle.slots.proofs.slot.Slot.hear.Statement.{statement}
+use Rattle.slots.proofs.slot.Slot.hear.Tie as tie
 
 add-out : tie.Need-add-out
 add-out c = search needs

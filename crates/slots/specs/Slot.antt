@@ -1,15 +1,17 @@
 -- A slot, and what is done to one.
 use mathlib.Core.List.{[]}
-use mathlib.Core.Bool.{true, false}
+use mathlib.Core.Bool.{Bool, true, false, _&&_}
+use lib.Dec.{leb}
 use Prim.Native.Nat.{ℕ, suc}
 use lib.ListN.{replicate, set}
 use Rattle.base.specs.declared.status.Status.{Status}
 use Rattle.base.specs.declared.status.Status.the-variants.{Null, Committed}
-use Rattle.deps.specs.Sets.{setOf, emptySet}
-use Rattle.deps.specs.Batches.{noOp}
+use Rattle.base.specs.Marks.{marksFit}
+use Rattle.deps.specs.Sets.{setOf, emptySet, setFits}
+use Rattle.deps.specs.Batches.{noOp, batchFits}
 use Rattle.deps.specs.declared.sets.DepSet.{DepSet}
 use Rattle.deps.specs.declared.batches.Batch.{Batch}
-use Rattle.table.specs.declared.slot.Slot.{Slot}
+use Rattle.slots.specs.declared.slot.Slot.{Slot}
 
 -- ballot 0, Null, sequence 0, nothing else
 abbrev pub nullSlot : Slot
@@ -96,3 +98,7 @@ withMark s peer =
 
 abbrev pub committed : Slot → Slot
 committed s = storedWith s (s .ballot) Committed (s .seq) (s .deps) (s .batch)
+
+-- source, dependencies, batch and marks within the bounds of n rows; else refusal 1
+unfoldable pub slotFits : ℕ → Slot → Bool
+slotFits n s = leb (s .source) n && (setFits n (s .deps) && (batchFits (s .batch) && marksFit n (s .marks)))

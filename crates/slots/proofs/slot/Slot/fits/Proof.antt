@@ -1,11 +1,11 @@
--- `table::slot::Slot::fits` meets its contract: each test in its turn, and then the marks.
+-- `slots::slot::Slot::fits` meets its contract: each test in its turn, and then the marks.
 use Rattle.base.proofs.Tests.{passed, failed}
-use Rattle.table.specs.Bounds.{slotFits}
+use Rattle.slots.specs.Slot.{slotFits}
 use Prim.Native.Nat.{_-_}
 use borrow.Author.Tests.{le-leb, lt-leb}
 use borrow.Author.Needs.{needs}
-use Rattle.table.proofs.slot.Slot.fits.Statement.{statement}
-use Rattle.table.proofs.slot.Slot.fits.Tie as tie
+use Rattle.slots.proofs.slot.Slot.fits.Statement.{statement}
+use Rattle.slots.proofs.slot.Slot.fits.Tie as tie
 
 cast-if1 : tie.Need-cast-if1
 cast-if1 c = search needs

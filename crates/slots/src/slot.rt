@@ -1,22 +1,21 @@
 // A slot, by value.
 ghost use mathlib.Core.Path.{_≡_};
 ghost use Prim.Native.Nat.{_<_};
-ghost use Rattle.table.specs.Slot.{storedWith, heardFrom, committed, leading, withMark};
-ghost use Rattle.table.specs.Bounds.{slotFits};
+ghost use Rattle.slots.specs.Slot.{storedWith, heardFrom, committed, leading, withMark, slotFits};
 use base::marks;
 use base::status::Status;
 use deps::batches::Batch;
 use deps::sets::DepSet;
 
-// The sequence's limit is that of its type. A source is 0 for none, p + 1 for the peer p. A slot that is led has a leader's
-// accept marks; of one that is not they say nothing.
+// A slot that is led has a leader's accept marks; of one that is not they say nothing. Wide fields first: a slot takes 168
+// bytes so, and a table of 224 stays below 40,000.
 pub struct Slot {
     pub ballot: u64,
-    pub status: Status,
-    pub seq: u32,
-    pub deps: DepSet,
     pub batch: Batch,
-    pub source: u8,
+    pub seq: u32, // the limit of a sequence is that of its type
+    pub status: Status,
+    pub deps: DepSet,
+    pub source: u8, // 0 for none, p + 1 for the peer p
     pub led: bool,
     pub marks: [bool; 7],
 }
