@@ -1,5 +1,5 @@
 -- A slot, and what is done to one.
-use mathlib.Core.List.{[]}
+use mathlib.Core.List.{List, []}
 use mathlib.Core.Bool.{Bool, true, false, _&&_}
 use lib.Dec.{leb}
 use Prim.Native.Nat.{ℕ, suc}
@@ -55,46 +55,31 @@ storedWith s ballot status seq deps batch =
       marks = s .marks;
     }
 
--- the source is 0 for none, p + 1 for the peer p
-abbrev pub heardFrom : Slot → ℕ → Slot
-heardFrom s peer =
+-- the values as they stand, with this source, lead and marks
+abbrev pub standing : Slot → ℕ → Bool → List Bool → Slot
+standing s source led marks =
     record {
       ballot = s .ballot;
       status = s .status;
       seq = s .seq;
       deps = s .deps;
       batch = s .batch;
-      source = suc peer;
-      led = s .led;
-      marks = s .marks;
+      source = source;
+      led = led;
+      marks = marks;
     }
+
+-- the source is 0 for none, p + 1 for the peer p
+abbrev pub heardFrom : Slot → ℕ → Slot
+heardFrom s peer = standing s (suc peer) (s .led) (s .marks)
 
 -- led, no accept marks
 abbrev pub leading : Slot → Slot
-leading s =
-    record {
-      ballot = s .ballot;
-      status = s .status;
-      seq = s .seq;
-      deps = s .deps;
-      batch = s .batch;
-      source = s .source;
-      led = true;
-      marks = replicate 7 false;
-    }
+leading s = standing s (s .source) true (replicate 7 false)
 
+-- the peer marked
 abbrev pub withMark : Slot → ℕ → Slot
-withMark s peer =
-    record {
-      ballot = s .ballot;
-      status = s .status;
-      seq = s .seq;
-      deps = s .deps;
-      batch = s .batch;
-      source = s .source;
-      led = s .led;
-      marks = set (s .marks) peer true;
-    }
+withMark s peer = standing s (s .source) (s .led) (set (s .marks) peer true)
 
 abbrev pub committed : Slot → Slot
 committed s = storedWith s (s .ballot) Committed (s .seq) (s .deps) (s .batch)
