@@ -1,10 +1,10 @@
 -- What the slot holds after each handler, what is put out, and what stays.
 use mathlib.Core.Path.{_≡_, refl, ap, sym, _∙_}
 use mathlib.Core.List.{List, [], _∷_}
-use mathlib.Core.Bool.{Bool, true, false, true≢false}
+use mathlib.Core.Bool.{true, false, true≢false}
 use Prim.Native.Nat.{ℕ, suc, _<_, _≤_}
 use native.Mathlib.Omega.{arith}
-use borrow.Author.Tests.{eqb-true, eqb-false, eq-eqb, not-true}
+use borrow.Author.Tests.{eqb-true, eq-eqb, not-true}
 use lib.Dec.{eqb}
 use lib.ListN.{length}
 use Rattle.base.specs.Marks.{marked, countOf}
@@ -19,11 +19,11 @@ use Rattle.keys.specs.Columns.{identifyOf, refreshedBy}
 use Rattle.keys.specs.declared.columns.Keys.{Keys}
 use Rattle.table.specs.Place.{placeOf, indexOf}
 use Rattle.slots.specs.Slot.{heardFrom, leading, committed}
-use Rattle.table.specs.Table.{lenOf, holds, slotNo, slotOf, putAt, storedAt, nullsTo}
+use Rattle.table.specs.Table.{holds, slotNo, slotOf, putAt, storedAt}
 use Rattle.table.specs.declared.place.Place.{Place}
 use Rattle.slots.specs.declared.slot.Slot.{Slot}
 use Rattle.table.specs.declared.table.Table.{Table}
-use Rattle.table.proofs.SlotReads.{holds-each, each-holds, put-there, put-elsewhere, stored-there, stored-elsewhere, stored-config, stored-lens, stored-bars, stored-keys, grown, grown-len, grown-len-other, nulls-cases, nulls-config, nulls-bars, nulls-keys, nulls-length, nulls-kept}
+use Rattle.table.proofs.SlotReads.{nulls-hold, put-there, put-elsewhere, stored-there, stored-elsewhere, stored-config, stored-lens, stored-bars, stored-keys, nulls-config, nulls-bars, nulls-keys, nulls-length, nulls-kept}
 use Rattle.table.proofs.HighestLaws.{highest-at}
 use Rattle.handlers.specs.Output.{logOf, noticeOf, replyOf}
 use Rattle.handlers.specs.Outcome.{Handled, ignored, done}
@@ -117,20 +117,6 @@ pub record WaitsFor (t : Table) (p : Proposal) (s : Slot) : Type 0 where
   pub at-least : p .seq ≤ s .seq
   pub some : 1 ≤ s .seq
   pub within : s .seq ≤ sequenceLimit
-
--- what was in the table is still
-nulls-hold : (t : Table) (at b : Place) → length (t .lens) ≡ 7 → at .row < 7 → holds t b ≡ true → holds (nullsTo t at) b ≡ true
-nulls-hold t at b e l h =
-    let p = holds-each t b h in
-    each-holds (nullsTo t at) b (p .0)
-    (nulls-cases t at (λ u. b .col < lenOf u (b .row)) (λ reached. p .1) (λ short. go (p .1) short (eqb (b .row) (at .row)) refl))
-  where
-    go : b .col < lenOf t (b .row) → lenOf t (at .row) ≤ at .col → (x : Bool) → eqb (b .row) (at .row) ≡ x → b .col < lenOf (grown t at) (b .row)
-    go k short true q =
-        let r = eqb-true (b .row) (at .row) q in
-        let j : b .col < lenOf t (at .row) = rw r at k in
-        rw r (omega (arith, grown-len t at (omega arith)))
-    go k short false q = omega (arith, grown-len-other t at (b .row) (eqb-false (b .row) (at .row) q))
 
 pub pre-accept-waits-for : {t : Table} {p : Proposal} {u : Table} {records : List Record} → length (t .lens) ≡ 7 → Stored PreAccept t p u records
     → WaitsFor t p (slotOf u (p .message .at))

@@ -42,7 +42,7 @@ impl Record {
         batch: Batch::NO_OP,
     };
 
-    pub fn of(what: What, at: Place, slot: Slot) -> Record
+    pub(crate) fn of(what: What, at: Place, slot: Slot) -> Record
         ensures { λ r. ⌜ r ≡ recordOf what at slot ⌝ }
     {
         let status = slot.status;
@@ -72,7 +72,7 @@ impl Output {
         records: [Record::NONE; 2],
     };
 
-    pub fn one(only: Record) -> Output
+    pub(crate) fn one(only: Record) -> Output
         ensures { λ r. ⌜ r ≡ outputOf (only ∷ []) ⌝ }
     {
         Output {
@@ -81,7 +81,7 @@ impl Output {
         }
     }
 
-    pub fn two(first: Record, second: Record) -> Output
+    pub(crate) fn two(first: Record, second: Record) -> Output
         ensures { λ r. ⌜ r ≡ outputOf (first ∷ second ∷ []) ⌝ }
     {
         Output {

@@ -4,8 +4,8 @@ use mathlib.Core.Logic.{_⊎_, inl, inr}
 use mathlib.Core.Bool.{Bool, true, false, and-false}
 use Prim.Native.Nat.{ℕ, suc, _+_, _*_, _/_, _%_, _<_, _≤_, max}
 use native.Mathlib.Omega.{arith}
-use borrow.Author.Tests.{lt-ltb, le-ltb, le-leb, ltb-true, ltb-false, leb-true, leb-false}
-use lib.Dec.{ltb, leb}
+use borrow.Author.Tests.{lt-ltb, le-ltb, le-leb, ltb-true, ltb-false, leb-true, leb-false, eqb-true, eqb-false}
+use lib.Dec.{ltb, leb, eqb}
 use lib.ListN.{length, getD, set, length-set}
 use lib.Seq.{getD-set-same, getD-set-other}
 use Rattle.base.proofs.Loops.{both-true, length-below, below-at}
@@ -210,3 +210,17 @@ module _ (t : Table) (at : Place) where
   nulls-kept b h l m =
       let p = holds-each t b h in
       nulls-held (indexOf b) (rw (index-row b (p .0), index-col b (p .0)) (p .1)) m (omega arith)
+
+-- what was in the table is still
+pub nulls-hold : (t : Table) (at b : Place) → length (t .lens) ≡ 7 → at .row < 7 → holds t b ≡ true → holds (nullsTo t at) b ≡ true
+nulls-hold t at b e l h =
+    let p = holds-each t b h in
+    each-holds (nullsTo t at) b (p .0)
+    (nulls-cases t at (λ u. b .col < lenOf u (b .row)) (λ reached. p .1) (λ short. go (p .1) short (eqb (b .row) (at .row)) refl))
+  where
+    go : b .col < lenOf t (b .row) → lenOf t (at .row) ≤ at .col → (x : Bool) → eqb (b .row) (at .row) ≡ x → b .col < lenOf (grown t at) (b .row)
+    go k short true q =
+        let r = eqb-true (b .row) (at .row) q in
+        let j : b .col < lenOf t (at .row) = rw r at k in
+        rw r (omega (arith, grown-len t at (omega arith)))
+    go k short false q = omega (arith, grown-len-other t at (b .row) (eqb-false (b .row) (at .row) q))

@@ -20,12 +20,15 @@ pub struct Table {
 }
 
 impl Table {
+    // The slots of an empty table.
+    pub const NULLS: [Slot; 224] = [Slot::NULL; 224];
+
     // No slot in any row, every bar at 0, no key entered.
     pub fn empty(config: Config) -> Table
         ensures { λ r. ⌜ r ≡ emptyTable config ⌝ }
     {
         let keys = Keys::empty();
-        let slots = [Slot::NULL; 224];
+        let slots = Table::NULLS;
         Table {
             config: config,
             slots: slots,
