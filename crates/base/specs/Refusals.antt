@@ -1,4 +1,4 @@
--- The numbers of the refusals.
+-- The numbers of the refusals, the limit of a sequence, and the first refusal of a list of tests.
 use mathlib.Core.List.{List, [], _∷_}
 use mathlib.Core.Bool.{Bool, cond}
 use Prim.Native.Nat.{ℕ}
@@ -30,6 +30,10 @@ overLimit = 6
 -- a log event or Lead for a slot not in the table
 abbrev pub noSlot : ℕ
 noSlot = 7
+
+-- the limit of a sequence
+abbrev pub sequenceLimit : ℕ
+sequenceLimit = 4294967295
 
 -- tests in their order, each with the number of its refusal; the first that fails gives its own, and 0 is none
 unfoldable pub firstRefusal : List (Bool × ℕ) → ℕ

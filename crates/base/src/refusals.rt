@@ -1,4 +1,4 @@
-// The numbers of the refusals.
+// The numbers of the refusals, and the limit of a sequence.
 pub const OUTSIDE_BOUNDS: u64 = 1; // a configuration or table outside the bounds, or a bar past its row's slots
 
 pub const NO_REPLICA: u64 = 2; // a peer, row, reply, vote, ack or silent replica at N or more
@@ -12,3 +12,5 @@ pub const BAD_BATCH: u64 = 5; // a batch over 4, or the key of a put or get abov
 pub const OVER_LIMIT: u64 = 6; // a sequence, given or about to be stored, over the limit
 
 pub const NO_SLOT: u64 = 7; // a log event or Lead for a slot not in the table
+
+pub const SEQUENCE_LIMIT: u64 = 4294967295;

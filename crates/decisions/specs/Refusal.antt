@@ -4,7 +4,7 @@ use mathlib.Core.Bool.{Bool, cond, not, _&&_, _||_}
 use lib.Dec.{leb}
 use Prim.Native.Nat.{ℕ}
 use Rattle.base.specs.Below.{allBelow}
-use Rattle.base.specs.Refusals.{outsideBounds, noReplica, badDependency, badBatch, overLimit}
+use Rattle.base.specs.Refusals.{outsideBounds, noReplica, badDependency, badBatch, overLimit, sequenceLimit}
 use Rattle.base.specs.Config.{configFits}
 use Rattle.base.specs.Marks.{marked, marksFit}
 use Rattle.deps.specs.Sets.{setFits}
@@ -21,7 +21,7 @@ bothFit n a b = marksFit n a && marksFit n b
 abbrev pub partFits : Part → ℕ → Contents → Bool
 partFits Deps n c = setFits n (c .deps)
 partFits Batch n c = batchFits (c .batch)
-partFits Sequence n c = leb (c .seq) 4294967295
+partFits Sequence n c = leb (c .seq) sequenceLimit
 
 abbrev pub listedFits : Part → ℕ → List Bool → List Contents → ℕ → Bool
 listedFits part n listed entries r = not (marked listed r) || partFits part n (saidBy entries r)

@@ -74,6 +74,6 @@ fn fits(part: Part, n: usize, entry: Contents) -> bool
             let batch = entry.batch;
             batch.fits()
         }
-        Part::Sequence => entry.seq <= 4294967295,
+        Part::Sequence => entry.seq <= refusals::SEQUENCE_LIMIT,
     }
 }

@@ -6,7 +6,7 @@ use Prim.Native.Nat.{ℕ, zero, suc, _<_, _≤_}
 use native.Mathlib.Omega.{arith}
 use borrow.Author.Tests.{ltb-true, ltb-false, leb-true, leb-false}
 use lib.Dec.{ltb, leb}
-use Rattle.base.specs.Refusals.{overLimit}
+use Rattle.base.specs.Refusals.{overLimit, sequenceLimit}
 use Rattle.base.specs.Marks.{countOf}
 use Rattle.base.proofs.Loops.{both-true}
 use Rattle.slots.specs.Slot.{leading, withMark, committed}
@@ -16,7 +16,7 @@ use Rattle.slots.specs.declared.slot.Slot.{Slot}
 use Rattle.table.specs.declared.table.Table.{Table}
 use Rattle.handlers.specs.Output.{logOf, noticeOf}
 use Rattle.handlers.specs.Outcome.{Handled, refused, ignored, done, unlessRefused}
-use Rattle.handlers.specs.Refusal.{sequenceLimit, messageRefusal, proposalRefusal, leadRefusal}
+use Rattle.handlers.specs.Refusal.{messageRefusal, proposalRefusal, leadRefusal}
 use Rattle.handlers.specs.Proposals.{valuesOf, storedFor, logged, proposed}
 use Rattle.handlers.specs.Replies.{heeds, onMark, acceptReply}
 use Rattle.handlers.specs.Prepare.{replied, expPrepare}

@@ -4,7 +4,7 @@ use mathlib.Core.Bool.{true}
 use Prim.Native.Nat.{ℕ, zero, suc, _<_, _≤_}
 use native.Mathlib.Omega.{arith}
 use borrow.Author.Tests.{ltb-true, leb-true}
-use Rattle.base.specs.Refusals.{firstRefusal}
+use Rattle.base.specs.Refusals.{firstRefusal, sequenceLimit}
 use Rattle.base.proofs.RefusalLaws.{first-passed, first-append-refused, first-append-passed}
 use Rattle.deps.specs.Sets.{setFits}
 use Rattle.deps.specs.Batches.{batchFits}
@@ -13,7 +13,7 @@ use Rattle.table.specs.Bounds.{tableFits}
 use Rattle.table.specs.declared.place.Place.{Place}
 use Rattle.table.specs.declared.table.Table.{Table}
 use Rattle.table.proofs.BoundLaws.{row-below}
-use Rattle.handlers.specs.Refusal.{sequenceLimit, messageTests, contentsTests, leadTests, messageRefusal, proposalRefusal, leadRefusal}
+use Rattle.handlers.specs.Refusal.{messageTests, contentsTests, leadTests, messageRefusal, proposalRefusal, leadRefusal}
 use Rattle.handlers.specs.declared.message.Message.{Message}
 use Rattle.handlers.specs.declared.message.Proposal.{Proposal}
 

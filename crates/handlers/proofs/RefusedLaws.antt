@@ -7,7 +7,7 @@ use Prim.Native.Nat.{ℕ, zero, suc, _<_, _≤_}
 use native.Mathlib.Omega.{arith}
 use borrow.Author.Tests.{lt-ltb, le-ltb, le-leb, lt-leb, ltb-true, ltb-false, leb-false}
 use lib.Dec.{ltb}
-use Rattle.base.specs.Refusals.{firstRefusal, outsideBounds, noReplica, noColumn, badDependency, badBatch, overLimit, noSlot}
+use Rattle.base.specs.Refusals.{firstRefusal, outsideBounds, noReplica, noColumn, badDependency, badBatch, overLimit, noSlot, sequenceLimit}
 use Rattle.base.specs.declared.answer.Answer.the-variants.{Refused}
 use Rattle.base.proofs.RefusalLaws.{passed-first}
 use Rattle.deps.specs.Sets.{setFits}
@@ -18,7 +18,7 @@ use Rattle.table.specs.declared.place.Place.{Place}
 use Rattle.table.specs.declared.table.Table.{Table}
 use Rattle.handlers.specs.Output.{outputOf}
 use Rattle.handlers.specs.Outcome.{Handled, refused, ignored, done, outcomeOf, unlessRefused}
-use Rattle.handlers.specs.Refusal.{sequenceLimit, messageTests, contentsTests, leadTests, messageRefusal, proposalRefusal, leadRefusal}
+use Rattle.handlers.specs.Refusal.{messageTests, contentsTests, leadTests, messageRefusal, proposalRefusal, leadRefusal}
 use Rattle.handlers.specs.Proposals.{proposed}
 use Rattle.handlers.specs.Replies.{acceptReply}
 use Rattle.handlers.specs.Prepare.{expPrepare}

@@ -7,6 +7,7 @@ use native.Mathlib.Omega.{arith}
 use borrow.Author.Tests.{eqb-true, eq-eqb, not-true}
 use lib.Dec.{eqb}
 use lib.ListN.{length}
+use Rattle.base.specs.Refusals.{sequenceLimit}
 use Rattle.base.specs.Marks.{marked, countOf}
 use Rattle.base.specs.Status.{rankOf}
 use Rattle.base.specs.declared.status.Status.{Status}
@@ -27,7 +28,7 @@ use Rattle.table.proofs.SlotReads.{nulls-hold, put-there, put-elsewhere, stored
 use Rattle.table.proofs.HighestLaws.{highest-at}
 use Rattle.handlers.specs.Output.{logOf, noticeOf, replyOf}
 use Rattle.handlers.specs.Outcome.{Handled, ignored, done}
-use Rattle.handlers.specs.Refusal.{sequenceLimit, messageRefusal, proposalRefusal}
+use Rattle.handlers.specs.Refusal.{messageRefusal, proposalRefusal}
 use Rattle.handlers.specs.Proposals.{storedFor, raisedBy, proposed}
 use Rattle.handlers.specs.Replies.{heeds, acceptReply}
 use Rattle.handlers.specs.Prepare.{expPrepare}

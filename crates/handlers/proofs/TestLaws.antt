@@ -3,12 +3,11 @@ use mathlib.Core.Path.{_≡_}
 use mathlib.Core.Bool.{true, false}
 use Prim.Native.Nat.{_<_, _≤_}
 use borrow.Author.Tests.{lt-ltb, le-ltb, lt-leb, le-leb}
-use Rattle.base.specs.Refusals.{overLimit}
+use Rattle.base.specs.Refusals.{overLimit, sequenceLimit}
 use Rattle.slots.specs.Slot.{withMark}
 use Rattle.table.specs.Table.{holds, slotOf}
 use Rattle.table.specs.declared.table.Table.{Table}
 use Rattle.handlers.specs.Outcome.{refused, ignored}
-use Rattle.handlers.specs.Refusal.{sequenceLimit}
 use Rattle.handlers.specs.Proposals.{valuesOf, storedFor, logged, onBallot}
 use Rattle.handlers.specs.Replies.{heeds, onMark, onHeld}
 use Rattle.handlers.specs.Prepare.{replied, onGreater}

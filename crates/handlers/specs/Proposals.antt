@@ -3,7 +3,7 @@ use mathlib.Core.List.{[], _∷_}
 use mathlib.Core.Bool.{cond}
 use lib.Dec.{leb}
 use Prim.Native.Nat.{ℕ, suc, max}
-use Rattle.base.specs.Refusals.{overLimit}
+use Rattle.base.specs.Refusals.{overLimit, sequenceLimit}
 use Rattle.base.specs.declared.status.Status.the-variants.{PreAccepting, Accepting, Committed}
 use Rattle.deps.specs.Sets.{unionOf}
 use Rattle.deps.specs.declared.batches.Batch.{Batch}
@@ -17,7 +17,7 @@ use Rattle.slots.specs.declared.slot.Slot.{Slot}
 use Rattle.table.specs.declared.table.Table.{Table}
 use Rattle.handlers.specs.Output.{logOf}
 use Rattle.handlers.specs.Outcome.{Handled, refused, ignored, done, unlessRefused}
-use Rattle.handlers.specs.Refusal.{sequenceLimit, proposalRefusal}
+use Rattle.handlers.specs.Refusal.{proposalRefusal}
 use Rattle.handlers.specs.declared.message.Message.{Message}
 use Rattle.handlers.specs.declared.message.Proposal.{Proposal}
 use Rattle.handlers.specs.declared.proposals.Phase.{Phase}

@@ -3,7 +3,7 @@ use mathlib.Core.List.{List, [], _∷_, _++_}
 use mathlib.Core.Bool.{Bool}
 use lib.Dec.{ltb, leb}
 use Prim.Native.Nat.{ℕ}
-use Rattle.base.specs.Refusals.{firstRefusal, outsideBounds, noReplica, noColumn, badDependency, badBatch, overLimit, noSlot}
+use Rattle.base.specs.Refusals.{firstRefusal, outsideBounds, noReplica, noColumn, badDependency, badBatch, overLimit, noSlot, sequenceLimit}
 use Rattle.deps.specs.Sets.{setFits}
 use Rattle.deps.specs.Batches.{batchFits}
 use Rattle.table.specs.Table.{holds}
@@ -12,9 +12,6 @@ use Rattle.table.specs.declared.place.Place.{Place}
 use Rattle.table.specs.declared.table.Table.{Table}
 use Rattle.handlers.specs.declared.message.Message.{Message}
 use Rattle.handlers.specs.declared.message.Proposal.{Proposal}
-
-abbrev pub sequenceLimit : ℕ
-sequenceLimit = 4294967295
 
 abbrev pub messageTests : Table → Message → List (Bool × ℕ)
 messageTests t m =

@@ -1,6 +1,7 @@
 // PreAccept, Accept and CommitNotice.
 ghost use mathlib.Core.Path.{_≡_};
 ghost use Prim.Native.Nat.{_<_, _≤_, max};
+ghost use Rattle.base.specs.Refusals.{sequenceLimit};
 ghost use Rattle.handlers.specs.Outcome.{outcomeOf};
 ghost use Rattle.handlers.specs.Proposals.{preAccept, accept, commitNotice, proposed, valuesOf, raisedBy, storedFor};
 use super::message::Message;
@@ -10,7 +11,6 @@ use super::output::Output;
 use super::output::Record;
 use super::output::What;
 use super::refusal;
-use super::refusal::SEQUENCE_LIMIT;
 use base::refusals;
 use base::status::Status;
 use deps::batches::Batch;
@@ -49,6 +49,7 @@ pub fn commit_notice(table: Table, proposal: Proposal) -> Outcome
     take(Phase::CommitNotice, table, proposal)
 }
 
+// What the three have in common: refusals, null slots, the ballot, the store, the log record.
 fn take(phase: Phase, table: Table, proposal: Proposal) -> Outcome
     ensures { λ r. ⌜ r ≡ outcomeOf table (proposed phase table proposal) ⌝ }
 {
@@ -64,7 +65,7 @@ fn take(phase: Phase, table: Table, proposal: Proposal) -> Outcome
         return Outcome::ignored(filled);
     }
     let values = values_for(phase, filled, proposal);
-    if SEQUENCE_LIMIT < values.seq {
+    if refusals::SEQUENCE_LIMIT < values.seq {
         return Outcome::refused(table, refusals::OVER_LIMIT);
     }
     let batch = proposal.batch;
@@ -111,7 +112,7 @@ fn greater(a: u64, b: u64) -> u64
 // The slot with the message's ballot, the phase's status and the values; a CommitNotice does not touch the source.
 fn stored_for(phase: Phase, slot: Slot, message: Message, values: Values, batch: Batch) -> Slot
     requires { ⌜ message .peer < 7 ⌝ }
-    requires { ⌜ values .seq ≤ 4294967295 ⌝ }
+    requires { ⌜ values .seq ≤ sequenceLimit ⌝ }
     ensures { λ r. ⌜ r ≡ storedFor phase slot message values batch ⌝ }
 {
     let seq = values.seq as u32;

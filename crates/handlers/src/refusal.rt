@@ -7,8 +7,6 @@ use base::refusals;
 use table::place::Place;
 use table::table::Table;
 
-pub(crate) const SEQUENCE_LIMIT: u64 = 4294967295;
-
 pub(crate) fn of_message(table: Table, message: Message) -> u64
     ensures { λ r. ⌜ r ≡ messageRefusal table message ⌝ }
 {
@@ -46,7 +44,7 @@ pub(crate) fn of_proposal(table: Table, proposal: Proposal) -> u64
     if !batch.fits() {
         return refusals::BAD_BATCH;
     }
-    if SEQUENCE_LIMIT < proposal.seq {
+    if refusals::SEQUENCE_LIMIT < proposal.seq {
         return refusals::OVER_LIMIT;
     }
     0
