@@ -3,5 +3,5 @@ pub mod RefusalLaws
 pub mod TestLaws
 pub mod CaseLaws
 pub mod RefusedLaws
-pub mod KeptLaws
 pub mod StoredLaws
+pub mod WithinLaws
