@@ -7,10 +7,10 @@ use Rattle.base.specs.Marks.{countOf, marksFit}
 use Rattle.deps.specs.Sets.{setFits, greaterEach, unionOf, raisedTo, sameSet}
 use Rattle.deps.specs.Batches.{batchFits, sameRequest, sameBatch}
 use Rattle.keys.specs.Columns.{identifyOf, refreshedBy, keysFit}
-use Rattle.decisions.specs.Contents.{sameContents, joinOf, entriesOf}
-use Rattle.decisions.specs.Holder.{lowestBelow, highestBelow}
-use Rattle.decisions.specs.Refusal.{partsFit, refusalOf}
-use Rattle.decisions.specs.Identical.{firstEnough, mostEquals}
+use Rattle.votes.specs.Contents.{sameContents, joinOf, entriesOf}
+use Rattle.votes.specs.Holder.{lowestBelow, highestBelow}
+use Rattle.votes.specs.Refusal.{partsFit, refusalOf}
+use Rattle.votes.specs.Identical.{firstEnough, mostEquals}
 use Rattle.decisions.specs.Fast.{joinedBelow, goneCount, fastDecision, fastAnswer}
 use Rattle.decisions.specs.Recovery.{highestVote, suchVotes, groupBy, choiceBy, answerBy}
 use Rattle.base.specs.Refusals.{firstRefusal}

@@ -10,10 +10,10 @@ use Rattle.base.specs.declared.config.Config.{Config}
 use Rattle.base.specs.declared.status.Status.{Status}
 use Rattle.base.specs.declared.status.Status.the-variants.{Null, PreAccepting, Committed}
 use Rattle.deps.specs.declared.batches.Request.{Request}
-use Rattle.decisions.specs.Answer.{Decided, wait, committed, accepting, preAccepting, refused}
+use Rattle.votes.specs.Answer.{Decided, wait, committed, accepting, preAccepting, refused}
 use Rattle.decisions.specs.Fast.{fastAnswer}
 use Rattle.decisions.specs.Recovery.{choiceAnswer}
-use Rattle.decisions.specs.declared.contents.Contents.{Contents}
+use Rattle.votes.specs.declared.contents.Contents.{Contents}
 use Rattle.decisions.specs.declared.recovery.Rule.{Rule}
 use Rattle.decisions.specs.declared.recovery.Rule.the-variants.{Rust, Paper}
 use Rattle.cases.specs.Notation.{rows, put, get, other, Stored, keysAfter, config, seven, Says, nothing-said, reply, vote, marks, seqs, cols, statuses, batches, contents, atDefault, Holds, sentAgain, preAccepted}

@@ -12,8 +12,8 @@ use Rattle.base.specs.declared.status.Status.{Status}
 use Rattle.base.specs.declared.status.Status.the-variants.{Null, PreAccepting}
 use Rattle.base.specs.declared.answer.Answer.the-variants.{Done}
 use Rattle.deps.specs.declared.batches.Batch.{Batch}
-use Rattle.decisions.specs.Contents.{contentsOf}
-use Rattle.decisions.specs.declared.contents.Contents.{Contents}
+use Rattle.votes.specs.Contents.{contentsOf}
+use Rattle.votes.specs.declared.contents.Contents.{Contents}
 use Rattle.decisions.specs.declared.recovery.Prepare.{Prepare}
 use Rattle.deps.specs.declared.sets.DepSet.{DepSet}
 use Rattle.deps.specs.declared.batches.Kind.the-variants.{Other, Put, Get}

@@ -1,9 +1,6 @@
 // What the program prints: words, sets as [1,_,3], batches, decisions, slots, records, ends of lines.
 use base::answer::Answer;
 use base::status::Status;
-use decisions::answer::Decision;
-use decisions::answer::Step;
-use decisions::contents::Contents;
 use deps::batches::Batch;
 use deps::batches::Kind;
 use deps::sets::DepSet;
@@ -13,6 +10,9 @@ use handlers::output::What;
 use libc::STDOUT_FILENO;
 use table::place::Place;
 use table::table::Table;
+use votes::answer::Decision;
+use votes::answer::Step;
+use votes::contents::Contents;
 
 pub(crate) fn word(bytes: &[u8]) {
     io::write_all(STDOUT_FILENO, bytes);

@@ -12,17 +12,17 @@ use Rattle.base.specs.Marks.{marked, countOf, marksFit}
 use Rattle.base.specs.declared.config.Config.{Config}
 use Rattle.base.proofs.Loops.{both-true}
 use Rattle.base.proofs.MarkLaws.{marks-fit-each, two-counts}
-use Rattle.decisions.specs.Contents.{none, saidBy, joinOf}
-use Rattle.decisions.specs.Answer.{Decided, wait, committed, accepting, refused}
-use Rattle.decisions.specs.Holder.{lowestBelow, orElse}
-use Rattle.decisions.specs.Refusal.{bothFit, refusalOf}
-use Rattle.decisions.specs.Identical.{occurrences, hasEnough, firstEnough}
+use Rattle.votes.specs.Contents.{none, saidBy, joinOf}
+use Rattle.votes.specs.Answer.{Decided, wait, committed, accepting, refused}
+use Rattle.votes.specs.Holder.{lowestBelow, orElse}
+use Rattle.votes.specs.Refusal.{bothFit, refusalOf}
+use Rattle.votes.specs.Identical.{occurrences, hasEnough, firstEnough}
 use Rattle.decisions.specs.Fast.{joinedBelow, joined, goneAt, goneCount, possible, fastDecision, repliesOf, fastAnswer}
-use Rattle.decisions.specs.declared.contents.Contents.{Contents}
-use Rattle.decisions.specs.declared.holder.Holder.{Holder}
-use Rattle.decisions.specs.declared.holder.Holder.the-variants.{Nobody, Replica}
-use Rattle.decisions.proofs.AnswerLaws.{apart, same-committed, same-accepting, refused-by}
-use Rattle.decisions.proofs.HolderLaws.{Lowest, lowest-is, is-lowest, lowest-nobody, all-fail-lowest}
+use Rattle.votes.specs.declared.contents.Contents.{Contents}
+use Rattle.votes.specs.declared.holder.Holder.{Holder}
+use Rattle.votes.specs.declared.holder.Holder.the-variants.{Nobody, Replica}
+use Rattle.votes.proofs.AnswerLaws.{apart, same-committed, same-accepting, refused-by}
+use Rattle.votes.proofs.HolderLaws.{Lowest, lowest-is, is-lowest, lowest-nobody, all-fail-lowest}
 
 -- ---- the union of the dependencies and the greatest sequence, turn by turn
 

@@ -1,6 +1,2 @@
-pub mod AnswerLaws
-pub mod HolderLaws
-pub mod RefusalLaws
-pub mod IdenticalLaws
 pub mod FastLaws
 pub mod RecoveryLaws

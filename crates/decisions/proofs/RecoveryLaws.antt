@@ -11,22 +11,22 @@ use Rattle.base.proofs.Loops.{both-true}
 use Rattle.base.specs.declared.config.Config.{Config}
 use Rattle.base.specs.declared.status.Status.{Status}
 use Rattle.base.specs.declared.status.Status.the-variants as status
-use Rattle.decisions.specs.Contents.{saidBy, noOpContents}
-use Rattle.decisions.specs.Answer.{Decided, wait, committed, accepting, preAccepting, refused}
-use Rattle.decisions.specs.Holder.{Inside, orElse}
-use Rattle.decisions.specs.Refusal.{refusalOf}
-use Rattle.decisions.specs.Identical.{occurrences, hasEnough, firstEnough}
+use Rattle.votes.specs.Contents.{saidBy, noOpContents}
+use Rattle.votes.specs.Answer.{Decided, wait, committed, accepting, preAccepting, refused}
+use Rattle.votes.specs.Holder.{Inside, orElse}
+use Rattle.votes.specs.Refusal.{refusalOf}
+use Rattle.votes.specs.Identical.{occurrences, hasEnough, firstEnough}
 use Rattle.decisions.specs.Recovery.{voteAt, highestVote, suchVotes, countsOf, groupBy, choiceBy, namedFit, answerBy}
-use Rattle.decisions.specs.declared.contents.Contents.{Contents}
-use Rattle.decisions.specs.declared.holder.Holder.{Holder}
-use Rattle.decisions.specs.declared.holder.Holder.the-variants.{Nobody, Replica}
+use Rattle.votes.specs.declared.contents.Contents.{Contents}
+use Rattle.votes.specs.declared.holder.Holder.{Holder}
+use Rattle.votes.specs.declared.holder.Holder.the-variants.{Nobody, Replica}
 use Rattle.decisions.specs.declared.recovery.Rule.{Rule}
 use Rattle.decisions.specs.declared.recovery.Rule.the-variants.{Rust, Paper}
 use Rattle.decisions.specs.declared.recovery.Prepare.{Prepare}
 use Rattle.decisions.specs.declared.recovery.Counts.{Counts}
-use Rattle.decisions.proofs.HolderLaws.{Lowest, lowest-is, is-lowest, Highest, is-highest, all-fail-highest, highest-inside, nobody-is-none, or-else-has}
-use Rattle.decisions.proofs.IdenticalLaws.{first-inside, at-most-listed}
-use Rattle.decisions.proofs.AnswerLaws.{goesOn, apart, refused-by}
+use Rattle.votes.proofs.HolderLaws.{Lowest, lowest-is, is-lowest, Highest, is-highest, all-fail-highest, highest-inside, nobody-is-none, or-else-has}
+use Rattle.votes.proofs.IdenticalLaws.{first-inside, at-most-listed}
+use Rattle.votes.proofs.AnswerLaws.{goesOn, apart, refused-by}
 
 pub vote-inside : (wanted : Status) (voted : List Bool) (statuses : List Status) → Inside (highestVote wanted voted statuses)
 unfolding highestVote

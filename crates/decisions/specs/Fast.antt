@@ -8,12 +8,12 @@ use Rattle.base.specs.Below.{countBelow}
 use Rattle.base.specs.Marks.{marked, countOf}
 use Rattle.deps.specs.Batches.{noOp}
 use Rattle.base.specs.declared.config.Config.{Config}
-use Rattle.decisions.specs.Contents.{none, saidBy, joinOf, entriesOf}
-use Rattle.decisions.specs.Answer.{Decided, wait, committed, accepting, unlessRefused}
-use Rattle.decisions.specs.Holder.{orElse}
-use Rattle.decisions.specs.Refusal.{bothFit, refusalOf}
-use Rattle.decisions.specs.Identical.{firstEnough, mostEquals}
-use Rattle.decisions.specs.declared.contents.Contents.{Contents}
+use Rattle.votes.specs.Contents.{none, saidBy, joinOf, entriesOf}
+use Rattle.votes.specs.Answer.{Decided, wait, committed, accepting, unlessRefused}
+use Rattle.votes.specs.Holder.{orElse}
+use Rattle.votes.specs.Refusal.{bothFit, refusalOf}
+use Rattle.votes.specs.Identical.{firstEnough, mostEquals}
+use Rattle.votes.specs.declared.contents.Contents.{Contents}
 
 -- the union of the dependencies and the greatest sequence of those listed among 0, 1, .., n - 1
 unfoldable pub joinedBelow : ℕ → List Bool → List Contents → Contents

@@ -1,7 +1,2 @@
-pub mod Contents
-pub mod Answer
-pub mod Holder
-pub mod Refusal
-pub mod Identical
 pub mod Fast
 pub mod Recovery

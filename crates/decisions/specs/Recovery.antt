@@ -11,14 +11,14 @@ use Rattle.base.specs.declared.config.Config.{Config}
 use Rattle.deps.specs.declared.batches.Batch.{Batch}
 use Rattle.base.specs.declared.status.Status.{Status}
 use Rattle.base.specs.declared.status.Status.the-variants.{Null, PreAccepting, Accepting, Committed}
-use Rattle.decisions.specs.Contents.{noOpContents, entriesOf}
-use Rattle.decisions.specs.Answer.{Decided, wait, committed, accepting, preAccepting, unlessRefused}
-use Rattle.decisions.specs.Holder.{highestBelow, orElse}
-use Rattle.decisions.specs.Refusal.{bothFit, refusalOf}
-use Rattle.decisions.specs.Identical.{firstEnough}
-use Rattle.decisions.specs.declared.contents.Contents.{Contents}
-use Rattle.decisions.specs.declared.holder.Holder.{Holder}
-use Rattle.decisions.specs.declared.holder.Holder.the-variants.{Nobody}
+use Rattle.votes.specs.Contents.{noOpContents, entriesOf}
+use Rattle.votes.specs.Answer.{Decided, wait, committed, accepting, preAccepting, unlessRefused}
+use Rattle.votes.specs.Holder.{highestBelow, orElse}
+use Rattle.votes.specs.Refusal.{bothFit, refusalOf}
+use Rattle.votes.specs.Identical.{firstEnough}
+use Rattle.votes.specs.declared.contents.Contents.{Contents}
+use Rattle.votes.specs.declared.holder.Holder.{Holder}
+use Rattle.votes.specs.declared.holder.Holder.the-variants.{Nobody}
 use Rattle.decisions.specs.declared.recovery.Rule.{Rule}
 use Rattle.decisions.specs.declared.recovery.Rule.the-variants.{Rust, Paper}
 use Rattle.decisions.specs.declared.recovery.Prepare.{Prepare}

@@ -3,17 +3,17 @@ ghost use mathlib.Core.Path.{_≡_};
 ghost use mathlib.Core.Bool.{true};
 ghost use Rattle.base.specs.Config.{configFits};
 ghost use Rattle.base.specs.Marks.{marksFit};
-ghost use Rattle.decisions.specs.Answer.{decisionOf, accepting};
+ghost use Rattle.votes.specs.Answer.{decisionOf, accepting};
 ghost use Rattle.decisions.specs.Fast.{isGone, goneCount, joined, fastDecision, fastAnswer};
-use super::answer::Decision;
-use super::answer::Step;
-use super::contents;
-use super::contents::Contents;
-use super::identical;
-use super::refusal;
 use base::config::Config;
 use base::marks;
 use deps::batches::Batch;
+use votes::answer::Decision;
+use votes::answer::Step;
+use votes::contents;
+use votes::contents::Contents;
+use votes::identical;
+use votes::refusal;
 
 // Replies by replica: whether there is one, its sequence, its dependency columns. Silent replicas by their marks.
 pub fn decision(

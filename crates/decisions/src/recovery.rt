@@ -1,20 +1,20 @@
 // The recovery choice on the votes that a prepare has gathered, by the Rust's counts or by the paper's.
 ghost use mathlib.Core.Path.{_≡_};
 ghost use Prim.Native.Nat.{_≤_};
-ghost use Rattle.decisions.specs.Answer.{decisionOf};
+ghost use Rattle.votes.specs.Answer.{decisionOf};
 ghost use Rattle.decisions.specs.Recovery.{isVote, notRow, suchVotes, highestVote, namedFit, countsOf, groupBy, choiceBy, answerBy, choiceAnswer};
 ghost use Rattle.decisions.specs.declared.recovery.Rule.the-variants.{Rust, Paper};
-use super::answer::Decision;
-use super::answer::Step;
-use super::contents;
-use super::contents::Contents;
-use super::holder::Holder;
-use super::identical;
-use super::refusal;
 use base::config::Config;
 use base::marks;
 use base::status::Status;
 use deps::batches::Batch;
+use votes::answer::Decision;
+use votes::answer::Step;
+use votes::contents;
+use votes::contents::Contents;
+use votes::holder::Holder;
+use votes::identical;
+use votes::refusal;
 
 // Whose counts.
 pub enum Rule {

@@ -1,60 +1,15 @@
--- What a host may rely on: out keeps its length, it is written for 105, 106 and 107 and for nothing else, and 0 says that a slice is short.
+-- What a host may rely on of the union: out keeps its length, and 0 says that a slice is short, and then out is as it was.
 use mathlib.Core.Path.{_≡_, refl}
 use mathlib.Core.List.{List}
 use mathlib.Core.Bool.{Bool, true, false, cond}
-use Prim.Native.Nat.{ℕ, _<_, _≤_}
+use Prim.Native.Nat.{ℕ}
 use native.Mathlib.Omega.{arith}
 use lib.ListN.{length}
-use Rattle.base.specs.declared.config.Config.{Config}
-use Rattle.decisions.specs.Answer.{Decided, wait, committed, accepting, preAccepting, refused, decisionOf}
-use Rattle.decisions.specs.declared.recovery.Prepare.{Prepare}
-use Rattle.decisions.specs.declared.recovery.Rule.{Rule}
 use Rattle.layout.specs.Numbers.{lay}
 use Rattle.layout.proofs.Laying.{lay-length}
-use Rattle.host.specs.Codes.{short, done, codeOf}
-use Rattle.host.specs.Answers.{contentsBytes, outOf, codeIf, bytesIf}
+use Rattle.calls.specs.Calls.{short}
+use Rattle.deciding.specs.Codes.{done}
 use Rattle.host.specs.Union.{unionLong, unionCode, unionBytes}
-use Rattle.host.specs.Fast.{fastLong, fastDecided, fastCode, fastBytes}
-use Rattle.host.specs.Recovery.{choiceLong, choiceDecided, choiceCode, choiceBytes}
-use Rattle.host.proofs.NumberLaws.{Numbered, some-number, fast-numbered, choice-numbered, fast-at-most}
-
--- ---- of any decision on slices that are long enough or not
-
-kept-length : (long whole : Bool) (d : Decided) (out : List ℕ) → length (bytesIf long whole d out) ≡ length out
-unfolding outOf
-kept-length false whole d out = refl
-kept-length true whole wait out = refl
-kept-length true whole (committed c) out = lay-length _ _ _
-kept-length true whole (accepting c) out = lay-length _ _ _
-kept-length true whole (preAccepting c) out = lay-length _ _ _
-kept-length true whole (refused k) out = refl
-
-stays : (long whole : Bool) (d : Decided) (out : List ℕ) → codeIf long d < 105 → bytesIf long whole d out ≡ out
-unfolding outOf codeOf
-stays false whole d out h = refl
-stays true whole wait out h = refl
-stays true whole (committed c) out h = absurd (omega arith)
-stays true whole (accepting c) out h = absurd (omega arith)
-stays true whole (preAccepting c) out h = absurd (omega arith)
-stays true whole (refused k) out h = refl
-
-written : (long whole : Bool) (d : Decided) (out : List ℕ) → Numbered d → 105 ≤ codeIf long d → bytesIf long whole d out ≡ lay out 0 (contentsBytes whole (decisionOf d .contents))
-unfolding outOf codeOf Numbered
-written false whole d out n h = absurd (omega arith)
-written true whole wait out n h = absurd (omega arith)
-written true whole (committed c) out n h = refl
-written true whole (accepting c) out n h = refl
-written true whole (preAccepting c) out n h = refl
-written true whole (refused k) out n h = absurd (omega (arith, n .1))
-
-zero-is-short : (long : Bool) (d : Decided) → Numbered d → codeIf long d ≡ 0 → long ≡ false
-zero-is-short false d n e = refl
-zero-is-short true d n e = absurd (omega (arith, some-number d n, e))
-
-short-is-zero : (long : Bool) (d : Decided) → long ≡ false → codeIf long d ≡ 0
-short-is-zero long d e = rw e
-
--- ---- the union
 
 module _ (a b out : List ℕ) where
   pub union-length : length (unionBytes a b out) ≡ length out
@@ -73,46 +28,3 @@ module _ (a b out : List ℕ) where
 
   pub union-short : unionLong a b out ≡ false → (unionCode a b out ≡ 0) × (unionBytes a b out ≡ out)
   union-short e = (rw e, rw e)
-
--- ---- the fast decision
-
-module _ (c : Config) (avoided : ℕ) (replies silent out : List ℕ) where
-  pub fast-length : length (fastBytes c avoided replies silent out) ≡ length out
-  fast-length = kept-length (fastLong replies silent out) false (fastDecided c avoided replies silent) out
-
-  pub fast-stays : fastCode c avoided replies silent out < 105 → fastBytes c avoided replies silent out ≡ out
-  fast-stays = stays (fastLong replies silent out) false (fastDecided c avoided replies silent) out
-
-  pub fast-written : 105 ≤ fastCode c avoided replies silent out → fastBytes c avoided replies silent out ≡ lay out 0 (contentsBytes false (decisionOf (fastDecided c avoided replies silent) .contents))
-  fast-written = written (fastLong replies silent out) false (fastDecided c avoided replies silent) out (fast-numbered c avoided replies silent)
-
-  pub fast-no-pre-accept : fastCode c avoided replies silent out ≤ 106
-  fast-no-pre-accept = go (fastLong replies silent out)
-    where
-      go : (long : Bool) → codeIf long (fastDecided c avoided replies silent) ≤ 106
-      go true = fast-at-most c avoided replies silent
-      go false = omega arith
-
-  pub fast-zero : fastCode c avoided replies silent out ≡ 0 → fastLong replies silent out ≡ false
-  fast-zero = zero-is-short (fastLong replies silent out) (fastDecided c avoided replies silent) (fast-numbered c avoided replies silent)
-
-  pub fast-short : fastLong replies silent out ≡ false → fastCode c avoided replies silent out ≡ 0
-  fast-short = short-is-zero (fastLong replies silent out) (fastDecided c avoided replies silent)
-
--- ---- the recovery choices
-
-module _ (rule : Rule) (c : Config) (p : Prepare) (acks votes out : List ℕ) where
-  pub choice-length : length (choiceBytes rule c p acks votes out) ≡ length out
-  choice-length = kept-length (choiceLong acks votes out) true (choiceDecided rule c p acks votes) out
-
-  pub choice-stays : choiceCode rule c p acks votes out < 105 → choiceBytes rule c p acks votes out ≡ out
-  choice-stays = stays (choiceLong acks votes out) true (choiceDecided rule c p acks votes) out
-
-  pub choice-written : 105 ≤ choiceCode rule c p acks votes out → choiceBytes rule c p acks votes out ≡ lay out 0 (contentsBytes true (decisionOf (choiceDecided rule c p acks votes) .contents))
-  choice-written = written (choiceLong acks votes out) true (choiceDecided rule c p acks votes) out (choice-numbered c rule p acks votes)
-
-  pub choice-zero : choiceCode rule c p acks votes out ≡ 0 → choiceLong acks votes out ≡ false
-  choice-zero = zero-is-short (choiceLong acks votes out) (choiceDecided rule c p acks votes) (choice-numbered c rule p acks votes)
-
-  pub choice-short : choiceLong acks votes out ≡ false → choiceCode rule c p acks votes out ≡ 0
-  choice-short = short-is-zero (choiceLong acks votes out) (choiceDecided rule c p acks votes)

@@ -5,8 +5,8 @@ use Prim.Native.Nat.{ℕ}
 use Rattle.deps.specs.Sets.{unionOf}
 use Rattle.layout.specs.Numbers.{lay}
 use Rattle.layout.specs.Sets.{setAt, setBytes}
-use Rattle.host.specs.Codes.{short, done}
-use Rattle.host.specs.Slices.{enough}
+use Rattle.calls.specs.Calls.{short, enough}
+use Rattle.deciding.specs.Codes.{done}
 
 unfoldable pub unionLong : List ℕ → List ℕ → List ℕ → Bool
 unionLong a b out = enough 7 a && (enough 7 b && enough 7 out)

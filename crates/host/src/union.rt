@@ -1,7 +1,8 @@
 // The union of two dependency sets.
 ghost use mathlib.Core.Path.{_≡_};
 ghost use Rattle.host.specs.Union.{unionCode, unionBytes};
-use super::codes;
+use calls::calls::SHORT;
+use deciding::codes;
 use layout::sets::put_set;
 use layout::sets::set_at;
 
@@ -15,13 +16,13 @@ pub extern "C" fn nj_union(a: &[u8], b: &[u8], out: &mut [u8]) -> u64
     ensures bytes { λ r. ⌜ now (out .exit) ≡ unionBytes (now (a .entry)) (now (b .entry)) (now (out .entry)) ⌝ }
 {
     if a.len() < 7 {
-        return codes::SHORT;
+        return SHORT;
     }
     if b.len() < 7 {
-        return codes::SHORT;
+        return SHORT;
     }
     if out.len() < 7 {
-        return codes::SHORT;
+        return SHORT;
     }
     let x = set_at(a, 0);
     let y = set_at(b, 0);

@@ -68,7 +68,7 @@ module _ (bytes : ℕ → List ℕ) (w : ℕ) (h : (i : ℕ) → length (bytes i
   past : (n : ℕ) (r : List ℕ) → drop (w * n) (eachBytes bytes n ++ r) ≡ r
   past n r = drop-at (eachBytes bytes n) r (w * n) (bytes-length n)
 
-  one-back : {A : Type 0} (one : List ℕ → A) (x : A) (i n : ℕ) (r : List ℕ) → i < n → ((t : List ℕ) → one (bytes i ++ t) ≡ x) → one (drop (w * i) (eachBytes bytes n ++ r)) ≡ x
+  pub one-back : {A : Type 0} (one : List ℕ → A) (x : A) (i n : ℕ) (r : List ℕ) → i < n → ((t : List ℕ) → one (bytes i ++ t) ≡ x) → one (drop (w * i) (eachBytes bytes n ++ r)) ≡ x
   unfolding eachBytes
   one-back one x i zero r p k = absurd (omega arith)
   one-back one x i (suc n) r p k =

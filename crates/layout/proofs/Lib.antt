@@ -2,5 +2,5 @@ pub mod Laying
 pub mod NumberLaws
 pub mod EachLaws
 pub mod BatchLaws
-pub mod SevenLaws
+pub mod MarkLaws
 pub mod KnownLaws

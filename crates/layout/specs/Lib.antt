@@ -2,5 +2,5 @@ pub mod Numbers
 pub mod Each
 pub mod Sets
 pub mod Batches
-pub mod Sevens
+pub mod Marks
 pub mod Known

@@ -1,13 +1,15 @@
 // Requests, 27 bytes, and batches, 109.
 ghost use mathlib.Core.Path.{_≡_};
-ghost use Prim.Native.Nat.{_+_, _≤_, min};
+ghost use Prim.Native.Nat.{_+_, _≤_};
 ghost use lib.ListN.{length, drop};
 ghost use Rattle.layout.specs.Numbers.{lay};
 ghost use Rattle.layout.specs.Batches.{kindOf, kindByte, keyOf, valueOf, requestAt, requestBytes, batchAt, batchBytes};
+use super::numbers::byte;
 use super::numbers::put_byte;
 use super::numbers::put_short;
 use super::numbers::put_word;
 use super::numbers::short;
+use super::numbers::size;
 use super::numbers::word;
 use deps::batches::Batch;
 use deps::batches::Kind;
@@ -59,19 +61,6 @@ fn value_of(kind: Kind) -> u64
     }
 }
 
-fn size(b: u8) -> usize
-    ensures { λ r. ⌜ r ≡ b ⌝ }
-{
-    b as usize
-}
-
-// A count that no byte holds is written as 255, which no batch within the bounds has.
-fn count_byte(count: usize) -> u8
-    ensures { λ r. ⌜ r ≡ min count 255 ⌝ }
-{
-    if count <= 255 { count as u8 } else { 255 }
-}
-
 fn request_at(s: &[u8], at: usize) -> Request
     requires { ⌜ at + 27 ≤ length (now s) ⌝ }
     ensures { λ r. ⌜ r ≡ requestAt (drop at (now (s .entry))) ⌝ }
@@ -119,7 +108,7 @@ pub fn put_batch(out: &mut [u8], at: usize, b: Batch)
     requires { ⌜ at + 109 ≤ length (now out) ⌝ }
     ensures { λ _. ⌜ now (out .exit) ≡ lay (now (out .entry)) at (batchBytes b) ⌝ }
 {
-    put_byte(out, at, count_byte(b.count));
+    put_byte(out, at, byte(b.count));
     let mut i: usize = 0;
     while i < 4 {
         let q = b.reqs[i];

@@ -2,5 +2,5 @@
 pub mod numbers; // numbers.rt: bytes, and numbers of two and of eight bytes
 pub mod sets; // sets.rt: dependency sets
 pub mod batches; // batches.rt: requests and batches
-pub mod sevens; // sevens.rt: arrays by replica
+pub mod marks; // marks.rt: marks and statuses
 pub mod known; // known.rt: whether bytes are among those that have a meaning

@@ -1,7 +1,7 @@
 // Numbers in a byte slice, low byte first.
 ghost use mathlib.Core.Path.{_≡_};
 ghost use mathlib.Core.List.{[], _∷_};
-ghost use Prim.Native.Nat.{_+_, _≤_, _<_, _%_};
+ghost use Prim.Native.Nat.{_+_, _≤_, _<_, _%_, min};
 ghost use lib.ListN.{length, drop};
 ghost use Rattle.layout.specs.Numbers.{wordOf, wordBytes, shortOf, shortBytes, lay};
 
@@ -67,9 +67,23 @@ pub(crate) fn put_short(out: &mut [u8], at: usize, v: u16)
     out[at + 1] = c;
 }
 
-pub(crate) fn put_byte(out: &mut [u8], at: usize, b: u8)
+pub fn put_byte(out: &mut [u8], at: usize, b: u8)
     requires { ⌜ at + 1 ≤ length (now out) ⌝ }
     ensures { λ _. ⌜ now (out .exit) ≡ lay (now (out .entry)) at (b ∷ []) ⌝ }
 {
     out[at] = b;
+}
+
+// One byte, read as a number.
+pub fn size(b: u8) -> usize
+    ensures { λ r. ⌜ r ≡ b ⌝ }
+{
+    b as usize
+}
+
+// A number as one byte. One that no byte holds is written as 255, which nothing within the bounds has.
+pub fn byte(v: usize) -> u8
+    ensures { λ r. ⌜ r ≡ min v 255 ⌝ }
+{
+    if v <= 255 { v as u8 } else { 255 }
 }

@@ -2,12 +2,12 @@
 use mathlib.Core.Path.{_≡_, refl, ap, sym, _∙_}
 use native.Mathlib.Omega.{arith}
 use Rattle.base.proofs.ConfigLaws.{config-fits-each}
-use Rattle.decisions.specs.Answer.{decisionOf, committed}
-use Rattle.decisions.specs.Identical.{mostEquals}
-use Rattle.decisions.specs.declared.answer.Step.the-variants.{Committed}
-use Rattle.decisions.proofs.IdenticalLaws.{most-at-most, found-inside}
+use Rattle.votes.specs.Answer.{decisionOf, committed}
+use Rattle.votes.specs.Identical.{mostEquals}
+use Rattle.votes.specs.declared.answer.Step.the-variants.{Committed}
+use Rattle.votes.proofs.IdenticalLaws.{most-at-most, found-inside}
 use Rattle.decisions.proofs.FastLaws.{heard-at-most, fast-few, fast-avoided, fast-open, later-slow, later-wait, later}
-use Rattle.decisions.proofs.HolderLaws.{decides-as}
+use Rattle.votes.proofs.HolderLaws.{decides-as}
 use mathlib.Core.Logic.{⊎-elim}
 use borrow.Author.Needs.{needs}
 use Rattle.decisions.proofs.fast.decided.Statement.{statement}

@@ -3,7 +3,7 @@ use mathlib.Core.Path.{_≡_, ap, _∙_}
 use mathlib.Core.Logic.{⊎-elim}
 use Prim.Native.Nat.{_≤_, _-_}
 use native.Mathlib.Omega.{arith}
-use Rattle.decisions.specs.Answer.{decisionOf, accepting}
+use Rattle.votes.specs.Answer.{decisionOf, accepting}
 use Rattle.decisions.specs.Fast.{joinedBelow}
 use Rattle.decisions.proofs.FastLaws.{joined-none, joined-in, joined-out}
 use borrow.Author.Needs.{needs}

@@ -2,11 +2,11 @@
 use mathlib.Core.Path.{_≡_, ap, sym, _∙_}
 use native.Mathlib.Omega.{arith}
 use Rattle.base.proofs.ConfigLaws.{config-fits-each}
-use Rattle.decisions.specs.Answer.{decisionOf, refused}
-use Rattle.decisions.specs.Refusal.{refusalOf}
+use Rattle.votes.specs.Answer.{decisionOf, refused}
+use Rattle.votes.specs.Refusal.{refusalOf}
 use Rattle.decisions.specs.Recovery.{namedFit, answerBy}
-use Rattle.decisions.proofs.AnswerLaws.{is-refused, not-refused}
-use Rattle.decisions.proofs.RefusalLaws.{refusal-none}
+use Rattle.votes.proofs.AnswerLaws.{is-refused, not-refused}
+use Rattle.votes.proofs.RefusalLaws.{refusal-none}
 use borrow.Author.Needs.{needs}
 use Rattle.decisions.proofs.recovery.choice.Statement.{statement}
 use Rattle.decisions.proofs.recovery.choice.Tie as tie

@@ -2,12 +2,12 @@
 use mathlib.Core.Path.{refl, ap, sym, _∙_}
 use native.Mathlib.Omega.{arith}
 use Rattle.base.specs.declared.status.Status.the-variants as status
-use Rattle.decisions.specs.Answer.{decisionOf, committed, accepting, preAccepting}
+use Rattle.votes.specs.Answer.{decisionOf, committed, accepting, preAccepting}
 use Rattle.decisions.specs.Recovery.{highestVote, groupBy}
-use Rattle.decisions.specs.declared.answer.Step.the-variants as step
+use Rattle.votes.specs.declared.answer.Step.the-variants as step
 use Rattle.decisions.proofs.RecoveryLaws.{vote-inside, group-inside, choice-few, choice-open}
-use Rattle.decisions.proofs.HolderLaws.{decides-as}
-use Rattle.decisions.specs.Contents.{noOpContents}
+use Rattle.votes.proofs.HolderLaws.{decides-as}
+use Rattle.votes.specs.Contents.{noOpContents}
 use borrow.Author.Needs.{needs}
 use Rattle.decisions.proofs.recovery.chosen.Statement.{statement}
 use Rattle.decisions.proofs.recovery.chosen.Tie as tie

@@ -3,9 +3,9 @@ use mathlib.Core.Path.{_≡_, sym, _∙_}
 use mathlib.Core.Logic.{⊎-elim}
 use Prim.Native.Nat.{_≤_, _-_, _+_}
 use native.Mathlib.Omega.{arith}
-use Rattle.decisions.specs.Holder.{highestBelow}
+use Rattle.votes.specs.Holder.{highestBelow}
 use Rattle.decisions.specs.Recovery.{voteAt, highestVote}
-use Rattle.decisions.proofs.HolderLaws.{highest-none, highest-in, highest-out}
+use Rattle.votes.proofs.HolderLaws.{highest-none, highest-in, highest-out}
 use borrow.Author.Needs.{needs}
 use Rattle.decisions.proofs.recovery.highest_vote.Statement.{statement}
 use Rattle.decisions.proofs.recovery.highest_vote.Tie as tie

@@ -1,65 +1,22 @@
--- `host::fast::nj_fast_decision` meets its contract: a short slice is told first; else the answer to what is decided.
-use mathlib.Core.Bool.{false}
-use borrow.Author.Tests.{le-leb, lt-leb}
-use Rattle.host.specs.Fast.{fastLong}
-use Rattle.host.proofs.AnswerLaws.{code-told, bytes-told}
+-- `host::fast::nj_fast_decision` meets its contract: the answer on slices, for this configuration.
 use borrow.Author.Needs.{needs}
 use Rattle.host.proofs.fast.nj_fast_decision.Statement.{statement}
 use Rattle.host.proofs.fast.nj_fast_decision.Tie as tie
 
-returns : tie.Need-returns
-unfolding fastLong
-returns c = let h = lt-leb _ _ (c .if1 .taken) in (rw h, rw h)
-
-returns-2 : tie.Need-returns-2
-unfolding fastLong
-returns-2 c =
-    let g = le-leb _ _ (c .before .if1 .left) in
-    let h = lt-leb _ _ (c .if2 .taken) in
-    (rw (g, h), rw (g, h))
-
-returns-3 : tie.Need-returns-3
-unfolding fastLong
-returns-3 c =
-    let f = le-leb _ _ (c .before .before .if1 .left) in
-    let g = le-leb _ _ (c .before .if2 .left) in
-    let h = lt-leb _ _ (c .if3 .taken) in
-    (rw (f, g, h), rw (f, g, h))
-
 config-requires : tie.Need-config-requires
 config-requires c κs = search needs
 
-decided-requires : tie.Need-decided-requires
-decided-requires c κs = search needs
-
-answered-requires : tie.Need-answered-requires
-answered-requires c κs = search needs
+answer-requires : tie.Need-answer-requires
+answer-requires c κs = search needs
 
 same-length : tie.Need-same-length
 same-length c = search needs
 
-returns-4 : tie.Need-returns-4
-unfolding fastLong
-returns-4 c =
-    let w = c .before .before in
-    let d = w .before .before in
-    let s = d .before in
-    let e = s .before in
-    let f = le-leb _ _ (e .before .before .if1 .left) in
-    let g = le-leb _ _ (e .before .if2 .left) in
-    let h = le-leb _ _ (e .if3 .left) in
-    let k = rw (s .config .ensures) at (d .decided .ensures) in
-    (rw (f, g, h) (code-told _ _ _ (w .answered .ensures .0) k), rw (f, g, h) (bytes-told _ _ false _ _ (w .answered .ensures .1) k))
+returns : tie.Need-returns
+returns c =
+    let a = c .before .before in
+    rw (a .before .before .config .ensures) at (a .answer .ensures)
 
 pub nj-fast-decision-spec : {M : Type 1} → statement M
 nj-fast-decision-spec =
-    tie.close
-    (tie.spec
-    returns
-    returns-2
-    returns-3
-    config-requires
-    decided-requires
-    answered-requires
-    same-length
-    returns-4)
+    tie.close (tie.spec config-requires answer-requires same-length returns)

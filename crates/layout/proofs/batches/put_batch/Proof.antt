@@ -21,8 +21,8 @@ Inv-loop out₀ at b i₀ out i = (i ≤ 4) × (length out ≡ length out₀) ×
 abbrev μ-loop : tie.MeasureT-loop
 μ-loop out₀ at b i₀ out i = 4 - i
 
-count-byte-requires : tie.Need-count-byte-requires Inv-loop μ-loop
-count-byte-requires c κs = search needs
+byte-requires : tie.Need-byte-requires Inv-loop μ-loop
+byte-requires c κs = search needs
 
 put-byte-requires : tie.Need-put-byte-requires Inv-loop μ-loop
 put-byte-requires c κs = search needs
@@ -74,7 +74,7 @@ returns c =
     let a = p .before .before .before .before .args in
     let e : o .loop .i ≡ 4 = omega arith in
     let f = rw e at (o .loop .inv .2) in
-    let g = lay-same (λ n. n ∷ []) _ _ (a .at) (p .put-byte .ensures) (p .before .count-byte .ensures) in
+    let g = lay-same (λ n. n ∷ []) _ _ (a .at) (p .put-byte .ensures) (p .before .byte .ensures) in
     next _ _ 108 (record { is = g; long = refl }) f (four-length (a .t3)) .is
 
 pub put-batch-spec : {M : Type 1} → statement M
@@ -83,7 +83,7 @@ put-batch-spec =
     (tie.spec
     Inv-loop
     μ-loop
-    count-byte-requires
+    byte-requires
     put-byte-requires
     loop-holds
     mul-q

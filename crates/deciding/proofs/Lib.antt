@@ -1,0 +1,4 @@
+pub mod SevenLaws
+pub mod AnswerLaws
+pub mod NumberLaws
+pub mod DecidingLaws

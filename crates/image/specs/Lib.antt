@@ -1,0 +1,4 @@
+pub mod Contents
+pub mod Slot
+pub mod Tables
+pub mod Output

@@ -1,0 +1,4 @@
+pub mod AnswerLaws
+pub mod HolderLaws
+pub mod RefusalLaws
+pub mod IdenticalLaws

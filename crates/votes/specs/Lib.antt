@@ -1,0 +1,5 @@
+pub mod Contents
+pub mod Answer
+pub mod Holder
+pub mod Refusal
+pub mod Identical
