@@ -3,8 +3,13 @@
  *
  * A frame: its length, 4 bytes, then requests one after another. A request: which function, 1 byte (CALLS below);
  * its numbers, 8 bytes each; its slices, each a length of 4 bytes and the bytes; the length of out, 4 bytes.
- * An answer: what the function returned, 8 bytes; then out and the bytes behind it, all FILL before the call.
+ * An answer: what the function returned, 8 bytes; then out and the bytes behind it, all FILL before the call; of a
+ * function that works on a table, then the image after the call and the bytes behind it.
  * All numbers are low byte first, as on every machine that the archive runs on.
+ *
+ * One image is current: OPEN starts it afresh from FILL, the handlers go on with it. Their second slice is none of the
+ * function's: where it has bytes, the call works on a copy, which they say how to spoil, and the current image stays.
+ * They are the length that the copy is handed over with, 4 bytes, then changes, each a place, 4 bytes, and a byte.
  *
  * No header is used, so that nothing but the kit is asked for. */
 
@@ -27,12 +32,27 @@ extern word nj_rust_choice(word n, word own, word simple, word sup, word row, wo
 extern word nj_paper_choice(word n, word own, word simple, word sup, word row, word highest, word initial,
                             const byte *acks, word acks_length, const byte *votes, word votes_length, byte *out,
                             word out_length);
+extern word nj_open(word n, word own, word simple, word sup, byte *image, word image_length);
+extern word nj_pre_accept(byte *image, word image_length, word peer, word row, word column, word ballot,
+                          const byte *contents, word contents_length, byte *out, word out_length);
+extern word nj_accept(byte *image, word image_length, word peer, word row, word column, word ballot,
+                      const byte *contents, word contents_length, byte *out, word out_length);
+extern word nj_commit_notice(byte *image, word image_length, word peer, word row, word column, word ballot,
+                             const byte *contents, word contents_length, byte *out, word out_length);
+extern word nj_accept_reply(byte *image, word image_length, word peer, word row, word column, word ballot, byte *out,
+                            word out_length);
+extern word nj_exp_prepare(byte *image, word image_length, word peer, word row, word column, word ballot, byte *out,
+                           word out_length);
+extern word nj_lead(byte *image, word image_length, word row, word column, byte *out, word out_length);
 
-enum { UNION = 1, FAST_DECISION, RUST_CHOICE, PAPER_CHOICE, CALLS };
-enum { FILL = 0xA5, BEHIND = 16, FRAME = 1 << 22, MOST_NUMBERS = 7, MOST_SLICES = 2 };
+enum {
+    UNION = 1, FAST_DECISION, RUST_CHOICE, PAPER_CHOICE,
+    OPEN, PRE_ACCEPT, ACCEPT, COMMIT_NOTICE, ACCEPT_REPLY, EXP_PREPARE, LEAD, CALLS
+};
+enum { FILL = 0xA5, BEHIND = 16, IMAGE = 33618, FRAME = 1 << 22, MOST_NUMBERS = 7, MOST_SLICES = 2 };
 
 /* How many numbers each function takes; each takes two slices and out. */
-static const half NUMBERS[CALLS] = {0, 0, 5, 7, 7};
+static const half NUMBERS[CALLS] = {0, 0, 5, 7, 7, 4, 4, 4, 4, 4, 4, 2};
 
 struct slice {
     const byte *at;
@@ -46,8 +66,16 @@ struct request {
     word out_length;
 };
 
+/* An image as it is handed over: with another length too. */
+struct table {
+    byte *at;
+    word length;
+};
+
 static byte frame[FRAME];
 static byte answers[FRAME];
+static byte current[IMAGE + BEHIND];
+static byte spoiled[IMAGE + BEHIND];
 
 /* Where the comparison ends inside a frame, or sends what is no request: a fault of its own. */
 static void stop(void) {
@@ -105,7 +133,26 @@ static struct request take_request(const byte **at, const byte *end) {
     return r;
 }
 
-static word call(const struct request *r, byte *out) {
+/* The current image, or the copy that the request asks for. */
+static struct table table_for(const struct request *r) {
+    const byte *at = r->slices[1].at, *end = at + r->slices[1].length;
+    struct table t = {current, IMAGE};
+    if (at < end) {
+        memcpy(spoiled, current, sizeof spoiled);
+        t.at = spoiled;
+        t.length = take_half(&at, end);
+        if (t.length > sizeof spoiled) stop();
+    }
+    if (r->function == OPEN) memset(t.at, FILL, sizeof current);
+    while (at < end) {
+        word place = take_half(&at, end);
+        if (place >= sizeof spoiled) stop();
+        t.at[place] = *take(&at, end, 1);
+    }
+    return t;
+}
+
+static word decide(const struct request *r, byte *out) {
     const word *n = r->numbers;
     const struct slice *a = &r->slices[0], *b = &r->slices[1];
     word length = r->out_length;
@@ -123,15 +170,45 @@ static word call(const struct request *r, byte *out) {
     }
 }
 
+static word handle(const struct request *r, struct table t, byte *out) {
+    const word *n = r->numbers;
+    const struct slice *c = &r->slices[0];
+    word length = r->out_length;
+    switch (r->function) {
+    case OPEN:
+        return nj_open(n[0], n[1], n[2], n[3], t.at, t.length);
+    case PRE_ACCEPT:
+        return nj_pre_accept(t.at, t.length, n[0], n[1], n[2], n[3], c->at, c->length, out, length);
+    case ACCEPT:
+        return nj_accept(t.at, t.length, n[0], n[1], n[2], n[3], c->at, c->length, out, length);
+    case COMMIT_NOTICE:
+        return nj_commit_notice(t.at, t.length, n[0], n[1], n[2], n[3], c->at, c->length, out, length);
+    case ACCEPT_REPLY:
+        return nj_accept_reply(t.at, t.length, n[0], n[1], n[2], n[3], out, length);
+    case EXP_PREPARE:
+        return nj_exp_prepare(t.at, t.length, n[0], n[1], n[2], n[3], out, length);
+    default:
+        return nj_lead(t.at, t.length, n[0], n[1], out, length);
+    }
+}
+
 /* Answers one request, and says where the next answer goes. */
 static byte *answer(const struct request *r, byte *to) {
     byte *out = to + sizeof(word);
-    word size = r->out_length + BEHIND;
-    if ((word)(answers + FRAME - out) < size) stop();
+    word size = r->out_length + BEHIND, code;
+    if ((word)(answers + FRAME - out) < size + sizeof current) stop();
     memset(out, FILL, size);
-    word code = call(r, out);
+    byte *end = out + size;
+    if (r->function < OPEN) {
+        code = decide(r, out);
+    } else {
+        struct table t = table_for(r);
+        code = handle(r, t, out);
+        memcpy(end, t.at, sizeof current);
+        end += sizeof current;
+    }
     memcpy(to, &code, sizeof code);
-    return out + size;
+    return end;
 }
 
 int main(void) {

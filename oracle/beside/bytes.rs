@@ -1,8 +1,8 @@
 //! How a call of a C function of crates/host lies in bytes.
-use summerset::plain::{Config, Deps, Kind, Request as Asked, Status};
-use summerset::refusals;
+use summerset::plain::{Config, Contents, Deps, Kind, Request as Asked, Status};
+use summerset::refusals::{self, COLUMNS};
 
-/// What `out` is filled with before a call, and how many bytes behind it are watched.
+/// What `out` is filled with before a call, and how many bytes behind it, and behind an image, are watched.
 pub const FILL: u8 = 0xA5;
 pub const BEHIND: usize = 16;
 
@@ -12,9 +12,14 @@ pub const WORD: usize = 8;
 pub const REQUEST: usize = 27;
 pub const REQUESTS: usize = 4;
 pub const BATCH: usize = 1 + REQUESTS * REQUEST;
+pub const BATCH_IN_CONTENTS: usize = WORD + SET;
+pub const CONTENTS: usize = BATCH_IN_CONTENTS + BATCH;
+/// A table's image, and what a handler puts out.
+pub const IMAGE: usize = 33_618;
+pub const OUT: usize = 291;
 pub const KIND_IN_REQUEST: usize = 16;
 pub const KEY_IN_REQUEST: usize = 17;
-const VALUE_IN_REQUEST: usize = 19;
+pub const VALUE_IN_REQUEST: usize = 19;
 
 /// Where the sequences and the sets of the replies, or of the votes, begin; the marks begin at 0.
 pub struct Parts {
@@ -34,10 +39,29 @@ pub enum Function {
     Fast,
     RustChoice,
     PaperChoice,
+    Open,
+    PreAccept,
+    Accept,
+    CommitNotice,
+    AcceptReply,
+    ExpPrepare,
+    Lead,
 }
 
 impl Function {
-    pub const ALL: [Function; 4] = [Function::Union, Function::Fast, Function::RustChoice, Function::PaperChoice];
+    pub const ALL: [Function; 11] = [
+        Function::Union,
+        Function::Fast,
+        Function::RustChoice,
+        Function::PaperChoice,
+        Function::Open,
+        Function::PreAccept,
+        Function::Accept,
+        Function::CommitNotice,
+        Function::AcceptReply,
+        Function::ExpPrepare,
+        Function::Lead,
+    ];
 
     pub fn name(self) -> &'static str {
         match self {
@@ -45,6 +69,13 @@ impl Function {
             Function::Fast => "fast decision",
             Function::RustChoice => "recovery choice, the Rust's counts",
             Function::PaperChoice => "recovery choice, the paper's count",
+            Function::Open => "open",
+            Function::PreAccept => "PreAccept",
+            Function::Accept => "Accept",
+            Function::CommitNotice => "CommitNotice",
+            Function::AcceptReply => "AcceptReply",
+            Function::ExpPrepare => "ExpPrepare",
+            Function::Lead => "Lead",
         }
     }
 
@@ -57,12 +88,24 @@ impl Function {
         matches!(self, Function::RustChoice | Function::PaperChoice)
     }
 
+    pub fn takes_contents(self) -> bool {
+        matches!(self, Function::PreAccept | Function::Accept | Function::CommitNotice)
+    }
+
+    /// Whether it works on a table; its second slice then says how the image is spoiled.
+    pub fn takes_table(self) -> bool {
+        self as u8 >= Function::Open as u8
+    }
+
     /// The least lengths of its two slices and of `out`.
     pub fn lengths(self) -> [usize; 3] {
         match self {
             Function::Union => [SET, SET, SET],
             Function::Fast => [REPLIES.length, REPLICAS, WORD + SET],
-            Function::RustChoice | Function::PaperChoice => [REPLICAS, VOTES.length, WORD + SET + BATCH],
+            Function::RustChoice | Function::PaperChoice => [REPLICAS, VOTES.length, CONTENTS],
+            Function::Open => [0; 3],
+            Function::PreAccept | Function::Accept | Function::CommitNotice => [CONTENTS, 0, OUT],
+            Function::AcceptReply | Function::ExpPrepare | Function::Lead => [0, 0, OUT],
         }
     }
 }
@@ -82,6 +125,13 @@ impl Request {
         refusals::config(self.numbers.get(..4)?.try_into().ok()?)
     }
 
+    /// Where the slot that a handler is called for stands among all, 32 a row, where there is room for it.
+    pub fn index(&self) -> Option<usize> {
+        let at = if self.function == Function::Lead { 0 } else { 1 };
+        let (row, col) = (*self.numbers.get(at)?, *self.numbers.get(at + 1)?);
+        (row < REPLICAS as u64 && col < COLUMNS).then(|| (row * COLUMNS + col) as usize)
+    }
+
     pub fn put(&self, frame: &mut Vec<u8>) {
         frame.push(self.function.number());
         for number in &self.numbers {
@@ -96,18 +146,37 @@ impl Request {
 }
 
 pub const DONE: u64 = 100;
+pub const IGNORED: u64 = 101;
 pub const WAIT: u64 = 104;
 
-/// What a call returns and writes to `out`.
+/// What a call returns, what it writes to `out`, and the image after it, where it works on one.
 #[derive(Clone, PartialEq, Eq, Debug)]
 pub struct Answer {
     pub code: u64,
     pub out: Vec<u8>,
+    pub image: Vec<u8>,
 }
 
 impl Answer {
+    pub fn of(code: u64, out: Vec<u8>) -> Self {
+        Answer { code, out, image: vec![] }
+    }
+
     pub fn unwritten(code: u64) -> Self {
-        Answer { code, out: vec![] }
+        Answer::of(code, vec![])
+    }
+
+    pub fn is_refused(&self) -> bool {
+        self.code < DONE
+    }
+
+    /// Of this request, with the bytes that are watched: what is not written of `out`, and what is behind, is as it was.
+    pub fn with_watched(mut self, request: &Request) -> Self {
+        self.out.resize(request.out + BEHIND, FILL);
+        if request.function.takes_table() {
+            self.image.resize(IMAGE + BEHIND, FILL);
+        }
+        self
     }
 
     /// Whether there are contents in `out`, by the code and by the room there is.
@@ -166,10 +235,11 @@ fn request_at(bytes: &[u8], at: usize) -> Asked {
     Asked { client: word(bytes, 0), id: word(bytes, WORD), kind }
 }
 
+/// A count of more than there is room for is written as it is.
 pub fn batch_bytes(batch: &[Asked]) -> [u8; BATCH] {
     let mut bytes = [0; BATCH];
     bytes[0] = batch.len() as u8;
-    for (i, request) in batch.iter().enumerate() {
+    for (i, request) in batch.iter().take(REQUESTS).enumerate() {
         put(&mut bytes, 1 + i * REQUEST, &request_bytes(request));
     }
     bytes
@@ -177,6 +247,20 @@ pub fn batch_bytes(batch: &[Asked]) -> [u8; BATCH] {
 
 pub fn batch_at(bytes: &[u8], at: usize) -> Vec<Asked> {
     (0..bytes[at] as usize).map(|i| request_at(bytes, at + 1 + i * REQUEST)).collect()
+}
+
+/// Requests past a batch's count are nobody's: they are not compared.
+pub fn clear_past_count(batch: &mut [u8]) {
+    let count = (batch[0] as usize).min(REQUESTS);
+    batch[1 + REQUEST * count..BATCH].fill(0);
+}
+
+pub fn first_bytes(seq: u64, deps: &Deps) -> Vec<u8> {
+    [&seq.to_le_bytes()[..], &set_bytes(deps)].concat()
+}
+
+pub fn contents_bytes(contents: &Contents) -> Vec<u8> {
+    [&first_bytes(contents.seq, &contents.deps)[..], &batch_bytes(&contents.batch)].concat()
 }
 
 pub fn marks_of(replicas: impl Iterator<Item = usize>) -> [u8; REPLICAS] {

@@ -1,6 +1,11 @@
 //! The questions in plain words, and as calls.
-use crate::bytes::{self, BATCH, Function, REPLIES, Request, SET, VOTE_BATCHES, VOTE_STATUSES, VOTES, WORD};
-use summerset::plain::{Config, Contents, Deps, Prepare, Reply, Vote};
+use crate::bytes::{
+    self, BATCH, DONE, Function, IGNORED, REPLIES, Request, SET, VOTE_BATCHES, VOTE_STATUSES, VOTES, WORD,
+};
+use summerset::drive::deps_of;
+use summerset::plain::{
+    Answer as Answered, Config, Contents, Deps, Event, Place, Prepare, Reply, Stepped, Store, Vote,
+};
 
 #[derive(Clone, PartialEq, Eq, Debug)]
 pub enum Case {
@@ -11,6 +16,48 @@ pub enum Case {
 
 pub fn numbers_of(config: &Config) -> [u64; 4] {
     [config.n, config.own, config.simple, config.sup].map(|number| number as u64)
+}
+
+/// The call that opens a table.
+pub fn open(config: &Config) -> Request {
+    call(Function::Open, numbers_of(config).to_vec(), vec![])
+}
+
+/// An event of a run as the call of its handler, with zeros wherever nothing stands.
+pub fn handler(event: &Event) -> Result<Request, String> {
+    let message = |peer: u64, at: &Place, ballot: u64| vec![peer, at.row, at.col, ballot];
+    Ok(match event {
+        Event::Store { what, peer, at, ballot, seq, deps, batch } => {
+            let function = match what {
+                Store::PreAccept => Function::PreAccept,
+                Store::Accept => Function::Accept,
+                Store::CommitNotice => Function::CommitNotice,
+            };
+            let contents = Contents { seq: *seq, deps: deps_of(deps), batch: batch.clone() };
+            call(function, message(*peer, at, *ballot), bytes::contents_bytes(&contents))
+        }
+        Event::AcceptReply { peer, at, ballot } => call(Function::AcceptReply, message(*peer, at, *ballot), vec![]),
+        Event::ExpPrepare { peer, at, ballot } => call(Function::ExpPrepare, message(*peer, at, *ballot), vec![]),
+        Event::Lead { at } => call(Function::Lead, vec![at.row, at.col], vec![]),
+        Event::Logged { .. } | Event::Attempt { .. } => return Err(format!("no event of a run: {event:?}")),
+    })
+}
+
+fn call(function: Function, numbers: Vec<u64>, contents: Vec<u8>) -> Request {
+    Request { function, numbers, slices: [contents, vec![]], out: function.lengths()[2] }
+}
+
+/// The code of what a handler did, which submits nothing and has nothing put back.
+pub fn code_of(did: &Stepped) -> Result<u64, String> {
+    if !did.submitted.is_empty() || !did.put_back.is_empty() {
+        return Err(format!("more than a handler does: {did:?}"));
+    }
+    match did.answer {
+        Answered::Refused(number) => Ok(u64::from(number)),
+        Answered::Done => Ok(DONE),
+        Answered::Ignored => Ok(IGNORED),
+        Answered::NotYet | Answered::Already => Err(format!("no answer of a handler: {:?}", did.answer)),
+    }
 }
 
 fn replies_bytes(replies: &[Reply]) -> Vec<u8> {

@@ -1,10 +1,12 @@
-//! Every case of a small world, however long that takes, then cases at random for the time that is given.
+//! Every case of a small world, however long that takes, then cases at random for the time that is given: one half for
+//! the union and the decisions, one for runs of the handlers.
 use crate::answerer::Answerer;
-use crate::bytes::{Answer, FILL, Function, REQUEST, REQUESTS, Request, SET, WORD};
+use crate::bytes::{self, Answer, BATCH_IN_CONTENTS, Function, Request};
 use crate::cases::Case;
+use crate::handlers::{self, Course};
 use crate::random::Random;
 use crate::tally::Tally;
-use crate::{draw, exhaustive, refused, rust_says, spoil};
+use crate::{draw, exhaustive, refused, rust_says, spoil, words};
 use std::time::{Duration, Instant};
 
 const FRAME: usize = 256;
@@ -18,23 +20,37 @@ struct Comparison {
 
 /// What is to be answered: the refusal, or what the Rust says. What is not written of `out` stays as it was.
 fn expected(request: &Request) -> Result<Answer, String> {
-    let mut answer = match refused::code(request) {
+    let answer = match refused::code(request) {
         Some(code) => Answer::unwritten(code),
         None => rust_says::answer(&Case::of(request))?,
     };
-    answer.out.resize(request.out, FILL);
-    Ok(answer)
+    Ok(answer.with_watched(request))
 }
 
-/// Requests past a batch's count are nobody's: they are not compared.
 fn up_to_count(function: Function, answer: &Answer) -> Answer {
     let mut answer = answer.clone();
     if function.is_choice() && answer.has_contents(function) {
-        let batch = &mut answer.out[WORD + SET..];
-        let count = (batch[0] as usize).min(REQUESTS);
-        batch[1 + REQUEST * count..1 + REQUEST * REQUESTS].fill(0);
+        bytes::clear_past_count(&mut answer.out[BATCH_IN_CONTENTS..]);
     }
     answer
+}
+
+fn difference(request: &Request, expected: &Result<Answer, String>, got: &Answer) -> String {
+    let function = request.function;
+    let question = match refused::code(request) {
+        Some(_) => "to be refused".into(),
+        None => words::question(&Case::of(request)),
+    };
+    let lines = [
+        function.name().into(),
+        format!("question  {question}"),
+        format!("numbers   {:?}", request.numbers),
+        format!("slices    {}", words::hex(&request.slices[0])),
+        format!("          {}", words::hex(&request.slices[1])),
+        format!("expected  {}", expected.as_ref().map_or_else(Clone::clone, |e| words::answer(function, e))),
+        format!("answered  {}", words::answer(function, got)),
+    ];
+    lines.join("\n  ")
 }
 
 impl Comparison {
@@ -60,8 +76,55 @@ impl Comparison {
         self.tally.add(function, self.is_exhaustive, expected.as_ref().map_or(got.code, |e| e.code));
         let is_same = |e: &Answer| up_to_count(function, e) == up_to_count(function, got);
         if !expected.as_ref().is_ok_and(is_same) {
-            self.tally.differ(request, expected, got);
+            self.tally.differ(function, || difference(request, expected, got));
         }
+    }
+
+    /// After the first answer that differs the others of the run are only read.
+    fn compare_run(&mut self, course: &Course) -> Result<(), String> {
+        let mut current = handlers::nothing();
+        let mut is_same = true;
+        for (number, call) in course.calls.iter().enumerate() {
+            let got = self.answerer.answer(&call.request)?;
+            if !is_same {
+                continue;
+            }
+            let function = call.request.function;
+            let expected = call.expected(&current);
+            let settled = call.settled(got.clone(), &expected);
+            self.tally.add(function, false, expected.as_ref().map_or(got.code, |e| e.code));
+            is_same = expected.as_ref().is_ok_and(|e| *e == settled);
+            if !is_same {
+                self.tally.differ(function, || course.difference(number, &current, &expected, &settled));
+            }
+            if call.spoiling.is_none() {
+                current = got.image;
+            }
+        }
+        self.tally.add_run(course);
+        Ok(())
+    }
+
+    fn decisions(&mut self, random: &mut Random, time: Duration) -> Result<(), String> {
+        let end = Instant::now() + time;
+        while Instant::now() < end {
+            for _ in 0..FRAME {
+                self.push(random_request(random))?;
+            }
+        }
+        Ok(())
+    }
+
+    /// The next run is drawn, and the Rust goes through it, while the C functions go through this one.
+    fn runs(&mut self, random: &mut Random, time: Duration) -> Result<(), String> {
+        let end = Instant::now() + time;
+        let mut next = handlers::draw(random)?;
+        while Instant::now() < end {
+            self.answerer.ask(next.calls.iter().map(|call| &call.request))?;
+            let course = std::mem::replace(&mut next, handlers::draw(random)?);
+            self.compare_run(&course)?;
+        }
+        Ok(())
     }
 }
 
@@ -87,13 +150,9 @@ pub fn run(program: &str, seconds: u64, seed: u64) -> Result<bool, String> {
     exhaustive::each(|case| comparison.push(case.request()))?;
     comparison.flush()?;
     comparison.is_exhaustive = false;
-    let end = Instant::now() + Duration::from_secs(seconds);
-    let mut random = Random::new(seed);
-    while Instant::now() < end {
-        for _ in 0..FRAME {
-            comparison.push(random_request(&mut random))?;
-        }
-    }
+    let half = Duration::from_secs(seconds) / 2;
+    comparison.decisions(&mut Random::new(seed), half)?;
+    comparison.runs(&mut Random::new(!seed), half)?;
     println!("seed {seed}, {seconds} seconds of random cases");
     comparison.tally.print();
     Ok(comparison.tally.differences() == 0)

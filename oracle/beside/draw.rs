@@ -5,16 +5,21 @@ use crate::random::Random;
 use summerset::plain::{Config, Contents, Deps, Kind, Prepare, Reply, Request, SlotAt, Status, Vote};
 use summerset::refusals::SEQUENCE;
 
+/// Of the union or a decision: the handlers are drawn in runs.
 pub fn case(function: Function, random: &mut Random) -> Case {
     match function {
         Function::Union => Case::Union { a: set(7, random), b: set(7, random) },
         Function::Fast => fast(random),
-        Function::RustChoice | Function::PaperChoice => choice(function, random),
+        by => choice(by, random),
     }
 }
 
 pub fn config(random: &mut Random) -> Config {
     let n = random.of(&[1, 2, 3, 3, 4, 4, 5, 5, 6, 7, 7]);
+    config_of(n, random)
+}
+
+pub fn config_of(n: usize, random: &mut Random) -> Config {
     let any = 1 + random.below(n);
     let simple = random.of(&[1, n / 2 + 1, n, any]);
     let any = simple + random.below(n - simple + 1);

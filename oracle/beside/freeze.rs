@@ -4,7 +4,7 @@ use crate::random::Random;
 use crate::{draw, list, runs, rust_says};
 use summerset::protocols::epaxos::replica;
 
-/// What a part of the list asks: a C function, or the key columns or the handlers, which have none yet.
+/// What a part of the list asks: a C function, or the key columns or the handlers, called as Rattle functions.
 enum Asked {
     Call(Function),
     Identify,
@@ -40,7 +40,7 @@ impl Asked {
                 let (n, stores, batch) = draw::stores(random);
                 Ok(list::identify(n, &stores, &batch, &replica::identified(n, &stores, &batch)))
             }
-            Asked::Run => list::run(&runs::run(random)),
+            Asked::Run => list::run(&runs::run(random)?),
         }
     }
 }

@@ -1,8 +1,9 @@
 //! A line of a list: a question in decimal numbers, then its answer.
 use crate::bytes::{self, Answer, DONE, SET, WORD};
-use crate::cases::{Case, numbers_of};
+use crate::cases::{Case, code_of, numbers_of};
+use crate::image::Record;
 use crate::runs::Run;
-use summerset::plain::{Answer as Answered, Contents, Deps, Event, Kind, Output, Request, Slot, SlotAt, Status, Table};
+use summerset::plain::{Contents, Deps, Event, Kind, Output, Request, Slot, SlotAt, Table};
 
 /// What each line holds, for its reader.
 pub const LEGEND: &str = "\
@@ -29,8 +30,6 @@ After a wait all is 0. A status: 0 Null, 1 PreAccepting, 2 Accepting, 3 Committe
 
 const IDENTIFY: u64 = 5;
 const RUN: u64 = 6;
-
-const IGNORED: u64 = 101;
 
 #[derive(Default)]
 struct Line(Vec<u64>);
@@ -130,17 +129,10 @@ impl Line {
     }
 
     fn put_record(&mut self, record: &Output) -> Result<(), String> {
-        let (head, slot, ballot, status, contents) = match record {
-            Output::Log { status, slot, ballot, contents } => ([1, 0, 0], slot, ballot, *status, contents),
-            Output::CommitNotice { slot, ballot, contents } => ([2, 0, 0], slot, ballot, Status::Committed, contents),
-            Output::ExpPrepareReply { to, slot, new_ballot, ballot, status, contents } => {
-                ([5, *to as u64, *new_ballot], slot, ballot, *status, contents)
-            }
-            _ => return Err(format!("no record of a run: {record:?}")),
-        };
-        self.put(head);
-        self.put([slot.0 as u64, slot.1 as u64, *ballot, status as u64]);
-        self.put_contents(contents);
+        let r = Record::of(record)?;
+        self.put([u64::from(r.what), r.to as u64, r.asked]);
+        self.put([r.slot.0 as u64, r.slot.1 as u64, r.ballot, r.status as u64]);
+        self.put_contents(r.contents);
         Ok(())
     }
 
@@ -191,27 +183,15 @@ pub fn identify(n: usize, stores: &[(SlotAt, Vec<Request>)], batch: &[Request], 
     line.text()
 }
 
-fn code(answer: Answered) -> Result<u64, String> {
-    match answer {
-        Answered::Refused(number) => Ok(u64::from(number)),
-        Answered::Done => Ok(DONE),
-        Answered::Ignored => Ok(IGNORED),
-        Answered::NotYet | Answered::Already => Err(format!("no answer of a run: {answer:?}")),
-    }
-}
-
-/// Of a run of the handlers, which submit nothing and have nothing put back.
+/// Of a run of the handlers.
 pub fn run(run: &Run) -> Result<String, String> {
     let mut line = Line::default();
     line.put([RUN]);
     line.put(numbers_of(&run.config));
     line.put([run.events.len() as u64]);
     for (event, did) in &run.events {
-        if !did.submitted.is_empty() || !did.put_back.is_empty() {
-            return Err(format!("{event:?} did more than a handler does: {did:?}"));
-        }
         line.put_event(event)?;
-        line.put([code(did.answer)?, did.output.len() as u64]);
+        line.put([code_of(did)?, did.output.len() as u64]);
         for record in &did.output {
             line.put_record(record)?;
         }

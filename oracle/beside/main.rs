@@ -3,18 +3,23 @@
 //!   beside freeze SEED DATE LIST STDOUT  writes a list of the Rust's answers, and what crates/vectors prints of it
 //!   beside trace                         the Rust alone, on a trace in hex on standard input
 mod answerer;
+mod bounds;
 mod bytes;
 mod cases;
 mod compare;
+mod differ;
 mod draw;
 mod exhaustive;
 mod freeze;
+mod handlers;
+mod image;
 mod list;
 mod random;
 mod refused;
 mod runs;
 mod rust_says;
 mod spoil;
+mod spoil_image;
 mod tally;
 mod trace;
 mod words;

@@ -1,12 +1,14 @@
 //! The answer to a call that never reaches the Rust, by the table of refusals and the layouts of crates/host.
+use crate::bounds::{self, batch_fits, kinds_are_known, set_fits};
 use crate::bytes::{
-    self, BATCH, Function, KIND_IN_REQUEST, Parts, REPLICAS, REPLIES, REQUEST, REQUESTS, Request, SET, VOTE_BATCHES,
+    self, BATCH, BATCH_IN_CONTENTS, Function, IMAGE, Parts, REPLICAS, REPLIES, Request, SET, VOTE_BATCHES,
     VOTE_STATUSES, VOTES, WORD,
 };
 use summerset::plain::Config;
-use summerset::refusals::{COLUMNS, KEYS, SEQUENCE};
+use summerset::refusals::SEQUENCE;
 
 const SHORT: u64 = 0;
+const OUTSIDE: u64 = 1;
 
 /// What the call is refused with: 0 for a slice that is too short, else the first refusal in the order of the numbers.
 pub fn code(request: &Request) -> Option<u64> {
@@ -17,7 +19,7 @@ pub fn code(request: &Request) -> Option<u64> {
         return None;
     }
     let Some(Config { n, .. }) = request.config().filter(|_| is_known(request)) else {
-        return Some(1);
+        return Some(OUTSIDE);
     };
     if !replicas_fit(request, n) {
         return Some(2);
@@ -32,6 +34,24 @@ pub fn code(request: &Request) -> Option<u64> {
     (!entries.each(|e| e.seq() <= SEQUENCE)).then_some(6)
 }
 
+/// What a call on a table is refused with before it comes to the event, which has its refusals from the driver: 0 for a
+/// length, then 1 for a byte that stands for nothing, then 1 for the bounds.
+pub fn on_table(request: &Request, image: &[u8]) -> Option<u64> {
+    if is_short(request) || image.len() != IMAGE {
+        return Some(SHORT);
+    }
+    let fits = match request.function {
+        Function::Open => request.config().is_some(),
+        function => {
+            let contents = &request.slices[0];
+            (!function.takes_contents() || kinds_are_known(&contents[BATCH_IN_CONTENTS..]))
+                && bounds::is_known(image)
+                && bounds::fits(image)
+        }
+    };
+    (!fits).then_some(OUTSIDE)
+}
+
 fn is_short(request: &Request) -> bool {
     let [first, second, out] = request.function.lengths();
     request.slices[0].len() < first || request.slices[1].len() < second || request.out < out
@@ -44,10 +64,8 @@ fn is_known(request: &Request) -> bool {
     if request.function == Function::Fast {
         return known && request.numbers[4] <= 1;
     }
-    let kind =
-        |i: usize| second[VOTE_BATCHES + BATCH * (i / REQUESTS) + 1 + REQUEST * (i % REQUESTS) + KIND_IN_REQUEST];
     let statuses = &second[VOTE_STATUSES..VOTE_STATUSES + REPLICAS];
-    known && statuses.iter().all(|s| *s <= 4) && (0..REPLICAS * REQUESTS).all(|i| kind(i) <= 2)
+    known && statuses.iter().all(|s| *s <= 4) && second[VOTE_BATCHES..VOTES.length].chunks(BATCH).all(kinds_are_known)
 }
 
 /// Of a choice the row too.
@@ -88,16 +106,10 @@ impl Entry<'_> {
     }
 
     fn set_fits(&self, n: usize) -> bool {
-        let at = self.of.parts.deps + SET * self.replica;
-        let set = &self.of.bytes[at..at + SET];
-        set[..n].iter().all(|d| u64::from(*d) <= COLUMNS) && set[n..].iter().all(|d| *d == 0)
+        set_fits(&self.of.bytes[self.of.parts.deps + SET * self.replica..], n)
     }
 
     fn batch_fits(&self) -> bool {
-        let batch = &self.of.bytes[VOTE_BATCHES + BATCH * self.replica..][..BATCH];
-        let request = |i: usize| &batch[1 + REQUEST * i..][..REQUEST];
-        let key_fits = |r: &[u8]| r[KIND_IN_REQUEST] == 0 || bytes::key_at(r) < KEYS;
-        let count = batch[0] as usize;
-        count <= REQUESTS && (0..count).all(|i| key_fits(request(i)))
+        batch_fits(&self.of.bytes[VOTE_BATCHES + BATCH * self.replica..])
     }
 }

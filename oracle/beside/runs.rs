@@ -1,33 +1,147 @@
 //! Runs of the handlers, drawn while the Rust goes through them: the next event is aimed by what its table has.
 use crate::draw;
 use crate::random::Random;
+use crate::rust_says::caught;
 use summerset::drive::Driver;
 use summerset::plain::{Config, Event, Kind, Place, Request, Slot, Status, Stepped, Store, Table};
 use summerset::refusals::{COLUMNS, KEYS, SEQUENCE};
 
-const LONGEST: usize = 12;
+/// How a run is drawn. A far one goes to the ends of rows, batches and numbers.
+pub struct Plan {
+    pub config: Config,
+    pub length: usize,
+    pub is_far: bool,
+    /// Whether an event may have more than the list has room for.
+    pub oversteps: bool,
+}
+
+const SHORT: usize = 12;
+const LONGEST: usize = 40;
+
+impl Plan {
+    /// Some runs are long, some far, and of these half of seven replicas.
+    pub fn any(random: &mut Random) -> Plan {
+        let config = draw::config(random);
+        let mut plan = Plan { config, length: 1 + random.below(SHORT), is_far: false, oversteps: true };
+        if random.one_in(6) {
+            plan.length = SHORT + 1 + random.below(LONGEST - SHORT);
+        }
+        plan.is_far = random.one_in(2);
+        if plan.is_far && random.one_in(2) {
+            plan.config = draw::config_of(7, random);
+        }
+        plan
+    }
+
+    /// As the list has them.
+    pub fn listed(random: &mut Random) -> Plan {
+        Plan { oversteps: false, ..Plan::any(random) }
+    }
+}
 
 /// On a table that begins empty: each event with what it did, and the table after the last.
 pub struct Run {
     pub config: Config,
     pub events: Vec<(Event, Stepped)>,
     pub table: Table,
+    driver: Driver,
+    is_far: bool,
+    oversteps: bool,
 }
 
-/// Some events come once more, just as they were.
-pub fn run(random: &mut Random) -> Run {
-    let config = draw::config(random);
-    let mut driver = Driver::new(config);
-    let mut events: Vec<(Event, Stepped)> = Vec::new();
-    for _ in 0..1 + random.below(LONGEST) {
-        let event = match !events.is_empty() && random.one_in(8) {
-            true => events[random.below(events.len())].0.clone(),
-            false => event(config.n as u64, &driver.table(), random),
-        };
-        let stepped = driver.step(&event);
-        events.push((event, stepped));
+impl Run {
+    pub fn new(plan: &Plan) -> Run {
+        let driver = Driver::new(plan.config);
+        let (is_far, oversteps) = (plan.is_far, plan.oversteps);
+        Run { config: plan.config, events: Vec::new(), table: driver.table(), driver, is_far, oversteps }
     }
-    Run { config, events, table: driver.table() }
+
+    /// Draws an event and takes the Rust through it: what it did, or what it says where it panics.
+    pub fn go_on(&mut self, random: &mut Random) -> (Event, Result<Stepped, String>) {
+        let event = self.next(random);
+        let stepped = caught(|| self.driver.step(&event));
+        if let Ok(stepped) = &stepped {
+            self.events.push((event.clone(), stepped.clone()));
+            self.table = self.driver.table();
+        }
+        (event, stepped)
+    }
+
+    /// Some events come once more, just as they were.
+    fn next(&self, random: &mut Random) -> Event {
+        if !self.events.is_empty() && random.one_in(8) {
+            return self.events[random.below(self.events.len())].0.clone();
+        }
+        let n = self.config.n as u64;
+        let mut event = event(n, &self.table, random);
+        if self.is_far {
+            go_far(&mut event, random);
+        }
+        if self.is_far && self.oversteps && random.one_in(16) {
+            overstep(&mut event, n, random);
+        }
+        event
+    }
+}
+
+/// A run, whole.
+pub fn run(random: &mut Random) -> Result<Run, String> {
+    let plan = Plan::listed(random);
+    let mut run = Run::new(&plan);
+    for _ in 0..plan.length {
+        run.go_on(random).1?;
+    }
+    Ok(run)
+}
+
+/// Any column, so that rows are filled; full batches and any key.
+fn go_far(event: &mut Event, random: &mut Random) {
+    let any = random.word() % COLUMNS;
+    let col = random.of(&[COLUMNS - 1, COLUMNS - 1, COLUMNS - 2, any]);
+    match event {
+        Event::Store { at, .. } | Event::ExpPrepare { at, .. } if at.col < COLUMNS && random.one_in(5) => at.col = col,
+        _ => {}
+    }
+    if let Event::Store { batch, .. } = event {
+        if random.one_in(5) {
+            batch.resize_with(4, || request(random));
+        }
+        let keys = batch.iter_mut().filter_map(key_of);
+        keys.for_each(|key| *key = if random.one_in(4) { random.word() % KEYS } else { *key });
+    }
+}
+
+fn key_of(request: &mut Request) -> Option<&mut u64> {
+    match &mut request.kind {
+        Kind::Other => None,
+        Kind::Put { key, .. } | Kind::Get { key } => Some(key),
+    }
+}
+
+/// One thing out of bounds: a number that would fit if it were cut, a dependency in a row past N, too many requests.
+fn overstep(event: &mut Event, n: u64, random: &mut Random) {
+    let more = 1 << random.of(&[8, 16, 32, 63]);
+    let (which, row) = (random.below(7), n as usize + random.below(7));
+    match event {
+        Event::Store { deps, .. } if which == 0 && row < 7 => {
+            deps.resize(row, 0);
+            deps.push(random.of(&[1, COLUMNS, COLUMNS + 1]));
+        }
+        Event::Store { batch, .. } if which == 1 => {
+            let count = random.of(&[5, 6, usize::from(u8::MAX)]);
+            batch.resize_with(count, || request(random));
+        }
+        Event::Store { batch, .. } if which == 2 => batch.iter_mut().filter_map(key_of).for_each(|key| *key |= KEYS),
+        Event::Store { seq, .. } if which == 3 => *seq = seq.wrapping_add(1 << 32),
+        Event::Store { peer, .. } | Event::AcceptReply { peer, .. } | Event::ExpPrepare { peer, .. } if which == 4 => {
+            *peer = peer.wrapping_add(more)
+        }
+        Event::Store { at, .. } | Event::AcceptReply { at, .. } | Event::ExpPrepare { at, .. } | Event::Lead { at } => {
+            let number = if which == 5 { &mut at.row } else { &mut at.col };
+            *number = number.wrapping_add(more);
+        }
+        Event::Logged { .. } | Event::Attempt { .. } => {}
+    }
 }
 
 /// Often an AcceptReply to a slot that is Accepting and led, or a Lead of one.

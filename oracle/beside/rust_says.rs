@@ -1,5 +1,5 @@
 //! The Rust's answer to a case, in the bytes of the C function that is compared with it.
-use crate::bytes::{self, Answer, DONE, Function, WAIT};
+use crate::bytes::{self, Answer, DONE, Function, WAIT, contents_bytes, first_bytes};
 use crate::cases::Case;
 use std::cell::{Cell, RefCell};
 use std::panic::{self, AssertUnwindSafe};
@@ -25,7 +25,7 @@ pub fn empty_lists() -> (u64, String) {
     EMPTY_LISTS.with_borrow(Clone::clone)
 }
 
-fn caught<T>(ask: impl FnOnce() -> T) -> Result<T, String> {
+pub fn caught<T>(ask: impl FnOnce() -> T) -> Result<T, String> {
     IS_ASKED.set(true);
     let said = panic::catch_unwind(AssertUnwindSafe(ask));
     IS_ASKED.set(false);
@@ -94,16 +94,8 @@ fn meets_an_empty_list(simple: usize, prepare: &Prepare) -> bool {
         && !prepare.votes.iter().any(|v| v.status == Status::PreAccepting && v.replica != prepare.row)
 }
 
-fn first_bytes(seq: u64, deps: &Deps) -> Vec<u8> {
-    [&seq.to_le_bytes()[..], &bytes::set_bytes(deps)].concat()
-}
-
-fn contents_bytes(contents: &Contents) -> Vec<u8> {
-    [&first_bytes(contents.seq, &contents.deps)[..], &bytes::batch_bytes(&contents.batch)].concat()
-}
-
 fn done(set: &Deps) -> Answer {
-    Answer { code: DONE, out: bytes::set_bytes(set).to_vec() }
+    Answer::of(DONE, bytes::set_bytes(set).to_vec())
 }
 
 fn went_on(status: Status, out: &[u8]) -> Answer {
@@ -112,5 +104,5 @@ fn went_on(status: Status, out: &[u8]) -> Answer {
         Status::Accepting => 106,
         _ => 107,
     };
-    Answer { code, out: out.to_vec() }
+    Answer::of(code, out.to_vec())
 }

@@ -1,16 +1,16 @@
 //! Calls that are not as a careful caller makes them.
 use crate::bytes::{
-    self, BATCH, Function, KEY_IN_REQUEST, KIND_IN_REQUEST, REPLICAS, REPLIES, REQUEST, REQUESTS, Request, SET,
-    VOTE_BATCHES, VOTE_STATUSES, VOTES, WORD,
+    self, BATCH, BATCH_IN_CONTENTS, CONTENTS, Function, KEY_IN_REQUEST, KIND_IN_REQUEST, REPLICAS, REPLIES, REQUEST,
+    REQUESTS, Request, SET, VALUE_IN_REQUEST, VOTE_BATCHES, VOTE_STATUSES, VOTES, WORD,
 };
 use crate::random::Random;
 
 /// Fills what is nobody's: the entries of replicas without a mark, and requests past a batch's count.
 pub fn litter(request: &mut Request, random: &mut Random) {
     let (entries, parts) = match request.function {
-        Function::Union => return,
         Function::Fast => (&mut request.slices[0], REPLIES),
-        Function::RustChoice | Function::PaperChoice => (&mut request.slices[1], VOTES),
+        function if function.is_choice() => (&mut request.slices[1], VOTES),
+        _ => return,
     };
     let is_votes = request.function.is_choice();
     for r in 0..REPLICAS {
@@ -30,8 +30,29 @@ pub fn litter(request: &mut Request, random: &mut Random) {
     }
 }
 
+/// The same of a call of a handler, and slices that are longer than they have to be. A request of kind other has no key
+/// and no value, a get no value: what stands there is nobody's too.
+pub fn litter_handler(request: &mut Request, random: &mut Random) {
+    request.out += random.of(&[0, 0, 1, 100]);
+    if !request.function.takes_contents() {
+        return;
+    }
+    let batch = &mut request.slices[0][BATCH_IN_CONTENTS..];
+    let count = batch[0] as usize;
+    for asked in batch[1..].chunks_mut(REQUEST).take(count) {
+        match asked[KIND_IN_REQUEST] {
+            0 => fill(&mut asked[KEY_IN_REQUEST..], random),
+            2 => fill(&mut asked[VALUE_IN_REQUEST..], random),
+            _ => {}
+        }
+    }
+    litter_batch(batch, count, random);
+    let longer = random.of(&[0, 0, 1, 50]);
+    request.slices[0].resize_with(CONTENTS + longer, || random.byte());
+}
+
 /// Kinds keep a meaning, since a kind without one is refused wherever it stands.
-fn litter_batch(batch: &mut [u8], count: usize, random: &mut Random) {
+pub fn litter_batch(batch: &mut [u8], count: usize, random: &mut Random) {
     for i in count..REQUESTS {
         let request = &mut batch[1 + REQUEST * i..][..REQUEST];
         fill(request, random);
@@ -39,7 +60,7 @@ fn litter_batch(batch: &mut [u8], count: usize, random: &mut Random) {
     }
 }
 
-fn fill(bytes: &mut [u8], random: &mut Random) {
+pub fn fill(bytes: &mut [u8], random: &mut Random) {
     bytes.iter_mut().for_each(|b| *b = random.byte());
 }
 
@@ -58,7 +79,7 @@ pub fn spoil(request: &mut Request, random: &mut Random) {
     }
 }
 
-fn spoil_number(numbers: &mut [u64], random: &mut Random) {
+pub fn spoil_number(numbers: &mut [u64], random: &mut Random) {
     let (n, any) = (numbers[0], random.word());
     let at = random.below(numbers.len());
     numbers[at] = random.of(&[0, 1, n.wrapping_add(1), n, 7, 8, 1 << 32 | n, u64::MAX, any]);

@@ -1,7 +1,7 @@
 //! What was compared, how often, and the first difference.
-use crate::bytes::{Answer, Function, Request};
-use crate::cases::Case;
-use crate::{refused, rust_says, words};
+use crate::bytes::Function;
+use crate::handlers::Course;
+use crate::{rust_says, words};
 use std::collections::BTreeMap;
 
 #[derive(Default)]
@@ -12,28 +12,20 @@ struct Counts {
     by_code: BTreeMap<u64, u64>,
 }
 
+/// Of the handlers.
+#[derive(Default)]
+struct Runs {
+    runs: u64,
+    spoiled: u64,
+    longest: usize,
+    records: [u64; 7],
+}
+
 #[derive(Default)]
 pub struct Tally {
     counts: [Counts; Function::ALL.len()],
+    runs: Runs,
     first_difference: Option<String>,
-}
-
-fn difference(request: &Request, expected: &Result<Answer, String>, got: &Answer) -> String {
-    let function = request.function;
-    let question = match refused::code(request) {
-        Some(_) => "to be refused".into(),
-        None => words::question(&Case::of(request)),
-    };
-    let lines = [
-        function.name().into(),
-        format!("question  {question}"),
-        format!("numbers   {:?}", request.numbers),
-        format!("slices    {}", words::hex(&request.slices[0])),
-        format!("          {}", words::hex(&request.slices[1])),
-        format!("expected  {}", expected.as_ref().map_or_else(Clone::clone, |e| words::answer(function, e))),
-        format!("answered  {}", words::answer(function, got)),
-    ];
-    lines.join("\n  ")
 }
 
 impl Tally {
@@ -47,9 +39,17 @@ impl Tally {
         *counts.by_code.entry(code).or_default() += 1;
     }
 
-    pub fn differ(&mut self, request: &Request, expected: &Result<Answer, String>, got: &Answer) {
-        self.counts[request.function as usize].differ += 1;
-        self.first_difference.get_or_insert_with(|| difference(request, expected, got));
+    pub fn add_run(&mut self, course: &Course) {
+        let r = &mut self.runs;
+        r.runs += 1;
+        r.spoiled += course.spoiled();
+        r.longest = r.longest.max(course.calls.len());
+        r.records.iter_mut().zip(course.records).for_each(|(sum, more)| *sum += more);
+    }
+
+    pub fn differ(&mut self, function: Function, difference: impl FnOnce() -> String) {
+        self.counts[function as usize].differ += 1;
+        self.first_difference.get_or_insert_with(difference);
     }
 
     fn sum(&self, of: impl Fn(&Counts) -> u64) -> u64 {
@@ -58,6 +58,13 @@ impl Tally {
 
     pub fn differences(&self) -> u64 {
         self.sum(|c| c.differ)
+    }
+
+    fn print_runs(&self) {
+        let Runs { runs, spoiled, longest, records } = &self.runs;
+        let [_, log, notice, _, _, reply, _] = records;
+        println!("runs of the handlers: {runs}, the longest of {longest} calls; {spoiled} calls spoiled");
+        println!("  put out: {log} log records, {notice} CommitNotices to all, {reply} ExpPrepareReplies");
     }
 
     pub fn print(&self) {
@@ -71,6 +78,7 @@ impl Tally {
                 c.by_code.iter().map(|(code, n)| format!("{} {n}", words::meaning(*code))).collect();
             println!("  {}: {}", function.name(), times.join(", "));
         }
+        self.print_runs();
         let (times, said) = rust_says::empty_lists();
         println!("panics on an empty list of votes, caught: {times}\n  {}", said.replace('\n', " "));
         if let Some(first) = &self.first_difference {

@@ -1,14 +1,16 @@
 //! Cases and answers in words, for whoever has to look at a difference.
-use crate::bytes::{self, Answer, DONE, Function, REPLICAS, SET, WAIT, WORD};
+use crate::bytes::{self, Answer, DONE, Function, IGNORED, REPLICAS, SET, WAIT, WORD};
 use crate::cases::Case;
-use summerset::plain::{Config, Contents, Reply, Vote};
+use summerset::drive::deps_of;
+use summerset::plain::{Config, Contents, Event, Place, Reply, Vote};
 use summerset::show;
 
 /// What a code says.
 pub fn meaning(code: u64) -> String {
     match code {
-        0 => "short slice".into(),
+        0 => "wrong length".into(),
         DONE => "done".into(),
+        IGNORED => "ignored".into(),
         WAIT => "wait".into(),
         105 => "Committed".into(),
         106 => "Accepting".into(),
@@ -28,7 +30,7 @@ fn each<T>(what: &str, all: &[T], word: impl Fn(&T) -> String) -> String {
     }
 }
 
-fn config(c: &Config) -> String {
+pub fn config(c: &Config) -> String {
     format!("N {}, own {}, simple {}, super {}", c.n, c.own, c.simple, c.sup)
 }
 
@@ -38,6 +40,20 @@ fn reply(r: &Reply) -> String {
 
 fn vote(v: &Vote) -> String {
     format!("{}: {:?} {}", v.replica, v.status, show::contents(&v.contents))
+}
+
+pub fn event(event: &Event) -> String {
+    let message = |peer: &u64, at: &Place, ballot: &u64| format!("{}.{} from {peer}, ballot {ballot}", at.row, at.col);
+    match event {
+        Event::Store { what, peer, at, ballot, seq, deps, batch } => {
+            let contents = Contents { seq: *seq, deps: deps_of(deps), batch: batch.clone() };
+            format!("{what:?} {} {}", message(peer, at, ballot), show::contents(&contents))
+        }
+        Event::AcceptReply { peer, at, ballot } => format!("AcceptReply {}", message(peer, at, ballot)),
+        Event::ExpPrepare { peer, at, ballot } => format!("ExpPrepare {}", message(peer, at, ballot)),
+        Event::Lead { at } => format!("Lead {}.{}", at.row, at.col),
+        Event::Logged { .. } | Event::Attempt { .. } => format!("{event:?}"),
+    }
 }
 
 pub fn question(case: &Case) -> String {

@@ -12,7 +12,8 @@ fn slot_at(at: &Place) -> SlotAt {
     (at.row as usize, at.col as usize)
 }
 
-fn deps_of(numbers: &[u64]) -> Deps {
+/// Of numbers that are 0 for nothing, or a column and one.
+pub fn deps_of(numbers: &[u64]) -> Deps {
     numbers.iter().map(|d| d.checked_sub(1).map(|col| col as usize)).collect()
 }
 

@@ -20,6 +20,11 @@ fn key_fits(request: &Request) -> bool {
     }
 }
 
+/// In a row of the population a column, in a row past it nothing.
+fn deps_fit(deps: &[u64], n: usize) -> bool {
+    deps.iter().take(n).all(|d| *d <= COLUMNS) && deps.iter().skip(n).all(|d| *d == 0)
+}
+
 fn whence(event: &Event) -> (Option<u64>, Place) {
     match event {
         Event::Store { peer, at, .. } | Event::AcceptReply { peer, at, .. } | Event::ExpPrepare { peer, at, .. } => {
@@ -40,7 +45,7 @@ pub fn refusal(config: &Config, event: &Event, is_held: impl Fn(usize, usize) ->
         return Some(3);
     }
     if let Event::Store { seq, deps, batch, .. } = event {
-        if deps.iter().any(|d| *d > COLUMNS) {
+        if !deps_fit(deps, config.n) {
             return Some(4);
         }
         if batch.len() > BATCH || !batch.iter().all(key_fits) {
