@@ -2,7 +2,6 @@
 ghost use mathlib.Core.Path.{_≡_};
 ghost use Prim.Native.Nat.{_≤_};
 ghost use lib.ListN.{length};
-ghost use Rattle.base.specs.Answer.{numberOf};
 ghost use Rattle.handlers.specs.Outcome.{outcomeOf};
 ghost use Rattle.image.specs.Tables.{imageWidth};
 ghost use Rattle.image.specs.Output.{outputWidth};

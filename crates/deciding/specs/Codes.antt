@@ -1,12 +1,15 @@
--- The number that a C function returns. 101 to 103 are kept for later answers.
+-- The number that a C function returns, of a decision.
 use mathlib.Core.Bool.{Bool, true, false}
 use Prim.Native.Nat.{ℕ}
+use Rattle.base.specs.Answer.{numberOf}
+use Rattle.base.specs.declared.answer.Answer.the-variants.{Done}
 use Rattle.votes.specs.Answer.{Decided, decisionOf}
 use Rattle.votes.specs.declared.answer.Step.{Step}
 use Rattle.votes.specs.declared.answer.Step.the-variants.{Wait, Committed, Accepting, PreAccepting, Refused}
 
+-- as an entry's own answer has it
 abbrev pub done : ℕ
-done = 100
+done = numberOf Done
 
 abbrev pub stepCode : Step → ℕ
 stepCode Wait = 104
