@@ -17,9 +17,6 @@ use Rattle.layout.specs.Marks.{markOf, statusOf, marksAt}
 use Rattle.layout.specs.Known.{eachBelow}
 use Rattle.image.specs.Contents.{contentsBytes, kindsKnown}
 
-abbrev pub slotWidth : ℕ
-slotWidth = 142
-
 -- ---- reading
 
 -- a sequence over the limit is read as the limit: who must refuse it tests it first
