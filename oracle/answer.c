@@ -3,13 +3,18 @@
  *
  * A frame: its length, 4 bytes, then requests one after another. A request: which function, 1 byte (CALLS below);
  * its numbers, 8 bytes each; its slices, each a length of 4 bytes and the bytes; the length of out, 4 bytes.
- * An answer: what the function returned, 8 bytes; then out and the bytes behind it, all FILL before the call; of a
- * function that works on a table, then the image after the call and the bytes behind it.
+ * An answer: what the function returned, 8 bytes; then out and the bytes behind it, all FILL before the call; of an
+ * attempt, whose out is the number of slots run, then the order list, which held the first slice before the call, and
+ * the bytes behind it; of a function that works on a table, then the image after the call and the bytes behind it.
  * All numbers are low byte first, as on every machine that the archive runs on.
  *
  * One image is current: OPEN starts it afresh from FILL, the handlers go on with it. Their second slice is none of the
  * function's: where it has bytes, the call works on a copy, which they say how to spoil, and the current image stays.
  * They are the length that the copy is handed over with, 4 bytes, then changes, each a place, 4 bytes, and a byte.
+ *
+ * RAISE is none of the archive's functions: it sets the commit bar of a row in the current image. By the rules only log
+ * events raise a bar, and these have no function yet; attempts need bars, so the comparison raises them by itself, here
+ * and in the Rust alike.
  *
  * No header is used, so that nothing but the kit is asked for. */
 
@@ -44,15 +49,18 @@ extern word nj_accept_reply(byte *image, word image_length, word peer, word row,
 extern word nj_exp_prepare(byte *image, word image_length, word peer, word row, word column, word ballot, byte *out,
                            word out_length);
 extern word nj_lead(byte *image, word image_length, word row, word column, byte *out, word out_length);
+extern word nj_attempt(byte *image, word image_length, word row, word column, byte *order, word order_length, byte *ran,
+                       word ran_length);
 
 enum {
     UNION = 1, FAST_DECISION, RUST_CHOICE, PAPER_CHOICE,
-    OPEN, PRE_ACCEPT, ACCEPT, COMMIT_NOTICE, ACCEPT_REPLY, EXP_PREPARE, LEAD, CALLS
+    OPEN, PRE_ACCEPT, ACCEPT, COMMIT_NOTICE, ACCEPT_REPLY, EXP_PREPARE, LEAD, ATTEMPT, RAISE, CALLS
 };
-enum { FILL = 0xA5, BEHIND = 16, IMAGE = 33618, FRAME = 1 << 22, MOST_NUMBERS = 7, MOST_SLICES = 2 };
+enum { FILL = 0xA5, BEHIND = 16, IMAGE = 33618, BARS = 11, FRAME = 1 << 22, MOST_NUMBERS = 7, MOST_SLICES = 2 };
+enum { ROWS = 7, DONE = 100 };
 
 /* How many numbers each function takes; each takes two slices and out. */
-static const half NUMBERS[CALLS] = {0, 0, 5, 7, 7, 4, 4, 4, 4, 4, 4, 2};
+static const half NUMBERS[CALLS] = {0, 0, 5, 7, 7, 4, 4, 4, 4, 4, 4, 2, 2, 2};
 
 struct slice {
     const byte *at;
@@ -170,7 +178,13 @@ static word decide(const struct request *r, byte *out) {
     }
 }
 
-static word handle(const struct request *r, struct table t, byte *out) {
+static word raise_bar(word row, word bar) {
+    if (row >= ROWS) stop();
+    current[BARS + row] = (byte)bar;
+    return DONE;
+}
+
+static word handle(const struct request *r, struct table t, byte *out, byte *order) {
     const word *n = r->numbers;
     const struct slice *c = &r->slices[0];
     word length = r->out_length;
@@ -187,23 +201,38 @@ static word handle(const struct request *r, struct table t, byte *out) {
         return nj_accept_reply(t.at, t.length, n[0], n[1], n[2], n[3], out, length);
     case EXP_PREPARE:
         return nj_exp_prepare(t.at, t.length, n[0], n[1], n[2], n[3], out, length);
-    default:
+    case LEAD:
         return nj_lead(t.at, t.length, n[0], n[1], out, length);
+    case ATTEMPT:
+        return nj_attempt(t.at, t.length, n[0], n[1], order, c->length, out, length);
+    default:
+        return raise_bar(n[0], n[1]);
     }
+}
+
+/* The room that an answer takes at most. */
+static word room_for(const struct request *r) {
+    word room = sizeof(word) + r->out_length + BEHIND + r->slices[0].length + BEHIND + sizeof current;
+    if (room > FRAME) stop();
+    return room;
 }
 
 /* Answers one request, and says where the next answer goes. */
 static byte *answer(const struct request *r, byte *to) {
-    byte *out = to + sizeof(word);
-    word size = r->out_length + BEHIND, code;
-    if ((word)(answers + FRAME - out) < size + sizeof current) stop();
-    memset(out, FILL, size);
-    byte *end = out + size;
+    const struct slice *list = &r->slices[0];
+    byte *out = to + sizeof(word), *order = out + r->out_length + BEHIND, *end = order;
+    word code;
+    memset(out, FILL, r->out_length + BEHIND);
+    if (r->function == ATTEMPT) {
+        memcpy(order, list->at, list->length);
+        memset(order + list->length, FILL, BEHIND);
+        end += list->length + BEHIND;
+    }
     if (r->function < OPEN) {
         code = decide(r, out);
     } else {
         struct table t = table_for(r);
-        code = handle(r, t, out);
+        code = handle(r, t, out, order);
         memcpy(end, t.at, sizeof current);
         end += sizeof current;
     }
@@ -220,6 +249,10 @@ int main(void) {
         byte *to = answers;
         for (at = frame; at < frame + length;) {
             struct request r = take_request(&at, frame + length);
+            if ((word)(answers + FRAME - to) < room_for(&r)) {
+                write_whole(answers, (word)(to - answers));
+                to = answers;
+            }
             to = answer(&r, to);
         }
         write_whole(answers, (word)(to - answers));

@@ -32,8 +32,9 @@ impl Answerer {
     pub fn answer(&mut self, request: &Request) -> Result<Answer, String> {
         let code = bytes::word(&self.next(WORD)?, 0);
         let out = self.next(request.out + BEHIND)?;
+        let order = request.list().map_or(Ok(vec![]), |list| self.next(list.len() + BEHIND))?;
         let image = if request.function.takes_table() { self.next(IMAGE + BEHIND)? } else { vec![] };
-        Ok(Answer { code, out, image })
+        Ok(Answer { code, out, order, image })
     }
 
     fn next(&mut self, count: usize) -> Result<Vec<u8>, String> {

@@ -17,6 +17,8 @@ pub const CONTENTS: usize = BATCH_IN_CONTENTS + BATCH;
 /// A table's image, and what a handler puts out.
 pub const IMAGE: usize = 33_618;
 pub const OUT: usize = 291;
+/// The least entries of the order list that an attempt is lent: one for each slot that there is room for.
+pub const ORDER: usize = 224;
 pub const KIND_IN_REQUEST: usize = 16;
 pub const KEY_IN_REQUEST: usize = 17;
 pub const VALUE_IN_REQUEST: usize = 19;
@@ -46,10 +48,14 @@ pub enum Function {
     AcceptReply,
     ExpPrepare,
     Lead,
+    Attempt,
+    /// None of the archive's: the comparison raises a row's commit bar in the image.
+    Raise,
 }
 
 impl Function {
-    pub const ALL: [Function; 11] = [
+    /// Those that are compared.
+    pub const ALL: [Function; 12] = [
         Function::Union,
         Function::Fast,
         Function::RustChoice,
@@ -61,6 +67,7 @@ impl Function {
         Function::AcceptReply,
         Function::ExpPrepare,
         Function::Lead,
+        Function::Attempt,
     ];
 
     pub fn name(self) -> &'static str {
@@ -76,6 +83,8 @@ impl Function {
             Function::AcceptReply => "AcceptReply",
             Function::ExpPrepare => "ExpPrepare",
             Function::Lead => "Lead",
+            Function::Attempt => "Attempt",
+            Function::Raise => "a bar raised",
         }
     }
 
@@ -97,13 +106,15 @@ impl Function {
         self as u8 >= Function::Open as u8
     }
 
-    /// The least lengths of its two slices and of `out`.
+    /// The least lengths of its two slices and of `out`. An attempt's `out` is the number of slots run; its order list,
+    /// the first slice, may be short: that is refused by a number of its own.
     pub fn lengths(self) -> [usize; 3] {
         match self {
             Function::Union => [SET, SET, SET],
             Function::Fast => [REPLIES.length, REPLICAS, WORD + SET],
             Function::RustChoice | Function::PaperChoice => [REPLICAS, VOTES.length, CONTENTS],
-            Function::Open => [0; 3],
+            Function::Open | Function::Raise => [0; 3],
+            Function::Attempt => [0, 0, WORD],
             Function::PreAccept | Function::Accept | Function::CommitNotice => [CONTENTS, 0, OUT],
             Function::AcceptReply | Function::ExpPrepare | Function::Lead => [0, 0, OUT],
         }
@@ -127,9 +138,14 @@ impl Request {
 
     /// Where the slot that a handler is called for stands among all, 32 a row, where there is room for it.
     pub fn index(&self) -> Option<usize> {
-        let at = if self.function == Function::Lead { 0 } else { 1 };
+        let at = if matches!(self.function, Function::Lead | Function::Attempt) { 0 } else { 1 };
         let (row, col) = (*self.numbers.get(at)?, *self.numbers.get(at + 1)?);
         (row < REPLICAS as u64 && col < COLUMNS).then(|| (row * COLUMNS + col) as usize)
+    }
+
+    /// The order list that an attempt is lent, as it is before.
+    pub fn list(&self) -> Option<&[u8]> {
+        (self.function == Function::Attempt).then_some(&self.slices[0])
     }
 
     pub fn put(&self, frame: &mut Vec<u8>) {
@@ -147,19 +163,23 @@ impl Request {
 
 pub const DONE: u64 = 100;
 pub const IGNORED: u64 = 101;
+pub const NOT_YET: u64 = 102;
+pub const ALREADY: u64 = 103;
 pub const WAIT: u64 = 104;
 
-/// What a call returns, what it writes to `out`, and the image after it, where it works on one.
+/// What a call returns, what it writes to `out` and, an attempt, to the order list, and the image after it, where it
+/// works on one.
 #[derive(Clone, PartialEq, Eq, Debug)]
 pub struct Answer {
     pub code: u64,
     pub out: Vec<u8>,
+    pub order: Vec<u8>,
     pub image: Vec<u8>,
 }
 
 impl Answer {
     pub fn of(code: u64, out: Vec<u8>) -> Self {
-        Answer { code, out, image: vec![] }
+        Answer { code, out, order: vec![], image: vec![] }
     }
 
     pub fn unwritten(code: u64) -> Self {
@@ -170,9 +190,14 @@ impl Answer {
         self.code < DONE
     }
 
-    /// Of this request, with the bytes that are watched: what is not written of `out`, and what is behind, is as it was.
+    /// Of this request, with the bytes that are watched: what is not written of `out` and of the order list, and what is
+    /// behind, is as it was.
     pub fn with_watched(mut self, request: &Request) -> Self {
         self.out.resize(request.out + BEHIND, FILL);
+        if let Some(list) = request.list() {
+            self.order.extend(&list[self.order.len()..]);
+            self.order.extend([FILL; BEHIND]);
+        }
         if request.function.takes_table() {
             self.image.resize(IMAGE + BEHIND, FILL);
         }

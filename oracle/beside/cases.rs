@@ -1,6 +1,7 @@
 //! The questions in plain words, and as calls.
 use crate::bytes::{
-    self, BATCH, DONE, Function, IGNORED, REPLIES, Request, SET, VOTE_BATCHES, VOTE_STATUSES, VOTES, WORD,
+    self, ALREADY, BATCH, DONE, Function, IGNORED, NOT_YET, ORDER, REPLIES, Request, SET, VOTE_BATCHES, VOTE_STATUSES,
+    VOTES, WORD,
 };
 use summerset::drive::deps_of;
 use summerset::plain::{
@@ -39,8 +40,14 @@ pub fn handler(event: &Event) -> Result<Request, String> {
         Event::AcceptReply { peer, at, ballot } => call(Function::AcceptReply, message(*peer, at, *ballot), vec![]),
         Event::ExpPrepare { peer, at, ballot } => call(Function::ExpPrepare, message(*peer, at, *ballot), vec![]),
         Event::Lead { at } => call(Function::Lead, vec![at.row, at.col], vec![]),
-        Event::Logged { .. } | Event::Attempt { .. } => return Err(format!("no event of a run: {event:?}")),
+        Event::Attempt { at } => call(Function::Attempt, vec![at.row, at.col], vec![0; ORDER]),
+        Event::Logged { .. } => return Err(format!("no event of a run: {event:?}")),
     })
+}
+
+/// The comparison's own: a row's commit bar is set to this.
+pub fn raise(row: usize, bar: usize) -> Request {
+    call(Function::Raise, vec![row as u64, bar as u64], vec![])
 }
 
 fn call(function: Function, numbers: Vec<u64>, contents: Vec<u8>) -> Request {
@@ -57,6 +64,20 @@ pub fn code_of(did: &Stepped) -> Result<u64, String> {
         Answered::Done => Ok(DONE),
         Answered::Ignored => Ok(IGNORED),
         Answered::NotYet | Answered::Already => Err(format!("no answer of a handler: {:?}", did.answer)),
+    }
+}
+
+/// The code of what an attempt did. What the Rust submits is not looked at: some of it has run before.
+pub fn code_of_attempt(did: &Stepped) -> Result<u64, String> {
+    if !did.output.is_empty() || !did.put_back.is_empty() {
+        return Err(format!("more than an attempt does: {did:?}"));
+    }
+    match did.answer {
+        Answered::Refused(number) => Ok(u64::from(number)),
+        Answered::Done => Ok(DONE),
+        Answered::NotYet => Ok(NOT_YET),
+        Answered::Already => Ok(ALREADY),
+        Answered::Ignored => Err("an attempt that is ignored".into()),
     }
 }
 

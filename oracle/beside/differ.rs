@@ -1,5 +1,5 @@
 //! What differs between the answer of a call on a table that is expected and the one that came, field by field.
-use crate::bytes::{self, Answer, BEHIND, IMAGE, OUT, REPLICAS, REQUESTS, SET, WORD};
+use crate::bytes::{self, Answer, BEHIND, IMAGE, ORDER, OUT, REPLICAS, REQUESTS, SET, WORD};
 use crate::image::{
     self, BARS, Form, HEAD, KEY_COLUMNS, LENGTHS, Part, RECORD, RECORD_PARTS, RECORDS, ROOM, SLOT_PARTS,
 };
@@ -85,13 +85,30 @@ pub fn image_fields(expected: &[u8], got: &[u8]) -> Vec<String> {
     image.found
 }
 
-/// Of `out` and of the image. What is refused writes nothing to `out`.
+/// Of an attempt: how many slots ran, their entries by their numbers, and what is to stay.
+fn order_fields(expected: &Answer, got: &Answer) -> Vec<String> {
+    let mut out = Differences { expected: &expected.out, got: &got.out, found: vec![] };
+    out.see("slots run", Form::Number, 0, WORD);
+    out.see("the bytes behind the number of slots run", Form::Bytes, WORD, out.got.len() - WORD);
+    let mut order = Differences { expected: &expected.order, got: &got.order, found: out.found };
+    let ran = bytes::word(&expected.out, 0) as usize;
+    order.see("entries by their numbers", Form::Bytes, 0, ran);
+    order.see("later entries", Form::Bytes, ran, ORDER - ran);
+    order.see("the bytes behind 224 entries", Form::Bytes, ORDER, order.got.len() - ORDER);
+    order.found
+}
+
+/// Of `out`, of an order list and of the image. What is refused writes nothing to `out` and the list.
 pub fn fields(expected: &Answer, got: &Answer) -> Vec<String> {
     let mut out = Differences { expected: &expected.out, got: &got.out, found: vec![] };
-    match expected.is_refused() || expected.out.len() < OUT {
-        true => out.see("out", Form::Bytes, 0, expected.out.len()),
-        false => out.see_records(),
+    let mut order = Differences { expected: &expected.order, got: &got.order, found: vec![] };
+    match (expected.is_refused(), expected.order.is_empty()) {
+        (false, true) if expected.out.len() >= OUT => out.see_records(),
+        (false, false) => out.found = order_fields(expected, got),
+        _ => {
+            out.see("out", Form::Bytes, 0, expected.out.len());
+            order.see("order", Form::Bytes, 0, expected.order.len());
+        }
     }
-    out.found.extend(image_fields(&expected.image, &got.image));
-    out.found
+    [out.found, order.found, image_fields(&expected.image, &got.image)].concat()
 }

@@ -124,6 +124,13 @@ pub fn of(config: &Config, table: &Table) -> Vec<u8> {
     image
 }
 
+/// The entries of the slots that stand run in the second image and not in the first, in rising order.
+pub fn run_between(before: &[u8], after: &[u8]) -> Vec<u8> {
+    let has_run = |image: &[u8], index: usize| image[slot_at(index) + STATUS] == Status::Executed as u8;
+    let entries = 0..ROOM as u8;
+    entries.filter(|e| has_run(after, usize::from(*e)) && !has_run(before, usize::from(*e))).collect()
+}
+
 /// What a handler hands on, in one form for all kinds.
 pub struct Record<'a> {
     pub what: u8,

@@ -3,6 +3,7 @@
 //!   beside freeze SEED DATE LIST STDOUT  writes a list of the Rust's answers, and what crates/vectors prints of it
 //!   beside trace                         the Rust alone, on a trace in hex on standard input
 mod answerer;
+mod attempts;
 mod bounds;
 mod bytes;
 mod cases;
@@ -15,6 +16,7 @@ mod handlers;
 mod image;
 mod list;
 mod random;
+mod reach;
 mod refused;
 mod runs;
 mod rust_says;

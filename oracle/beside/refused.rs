@@ -1,7 +1,7 @@
 //! The answer to a call that never reaches the Rust, by the table of refusals and the layouts of crates/host.
 use crate::bounds::{self, batch_fits, kinds_are_known, set_fits};
 use crate::bytes::{
-    self, BATCH, BATCH_IN_CONTENTS, Function, IMAGE, Parts, REPLICAS, REPLIES, Request, SET, VOTE_BATCHES,
+    self, BATCH, BATCH_IN_CONTENTS, Function, IMAGE, ORDER, Parts, REPLICAS, REPLIES, Request, SET, VOTE_BATCHES,
     VOTE_STATUSES, VOTES, WORD,
 };
 use summerset::plain::Config;
@@ -9,6 +9,7 @@ use summerset::refusals::SEQUENCE;
 
 const SHORT: u64 = 0;
 const OUTSIDE: u64 = 1;
+const SHORT_LIST: u64 = 8;
 
 /// What the call is refused with: 0 for a slice that is too short, else the first refusal in the order of the numbers.
 pub fn code(request: &Request) -> Option<u64> {
@@ -35,10 +36,13 @@ pub fn code(request: &Request) -> Option<u64> {
 }
 
 /// What a call on a table is refused with before it comes to the event, which has its refusals from the driver: 0 for a
-/// length, then 1 for a byte that stands for nothing, then 1 for the bounds.
+/// length, 8 for an order list that is short, then 1 for a byte that stands for nothing, then 1 for the bounds.
 pub fn on_table(request: &Request, image: &[u8]) -> Option<u64> {
     if is_short(request) || image.len() != IMAGE {
         return Some(SHORT);
+    }
+    if request.list().is_some_and(|list| list.len() < ORDER) {
+        return Some(SHORT_LIST);
     }
     let fits = match request.function {
         Function::Open => request.config().is_some(),

@@ -1,7 +1,7 @@
 //! Runs of the handlers, drawn while the Rust goes through them: the next event is aimed by what its table has.
-use crate::draw;
 use crate::random::Random;
 use crate::rust_says::caught;
+use crate::{attempts, draw};
 use summerset::drive::Driver;
 use summerset::plain::{Config, Event, Kind, Place, Request, Slot, Status, Stepped, Store, Table};
 use summerset::refusals::{COLUMNS, KEYS, SEQUENCE};
@@ -13,6 +13,8 @@ pub struct Plan {
     pub is_far: bool,
     /// Whether an event may have more than the list has room for.
     pub oversteps: bool,
+    /// Whether it keeps to what the rules compare of attempts.
+    pub has_attempts: bool,
 }
 
 const SHORT: usize = 12;
@@ -22,7 +24,8 @@ impl Plan {
     /// Some runs are long, some far, and of these half of seven replicas.
     pub fn any(random: &mut Random) -> Plan {
         let config = draw::config(random);
-        let mut plan = Plan { config, length: 1 + random.below(SHORT), is_far: false, oversteps: true };
+        let length = 1 + random.below(SHORT);
+        let mut plan = Plan { config, length, is_far: false, oversteps: true, has_attempts: false };
         if random.one_in(6) {
             plan.length = SHORT + 1 + random.below(LONGEST - SHORT);
         }
@@ -39,36 +42,54 @@ impl Plan {
     }
 }
 
-/// On a table that begins empty: each event with what it did, and the table after the last.
+/// What happens in a run: an event, or the comparison raises a row's commit bar, in place of the log events.
+#[derive(Clone)]
+pub enum Step {
+    Event(Event),
+    Raise { row: usize, bar: usize },
+}
+
+/// On a table that begins empty: each event with what it did, the table before the last and after it.
 pub struct Run {
     pub config: Config,
     pub events: Vec<(Event, Stepped)>,
+    pub before: Table,
     pub table: Table,
     driver: Driver,
     is_far: bool,
     oversteps: bool,
+    has_attempts: bool,
 }
 
 impl Run {
     pub fn new(plan: &Plan) -> Run {
         let driver = Driver::new(plan.config);
-        let (is_far, oversteps) = (plan.is_far, plan.oversteps);
-        Run { config: plan.config, events: Vec::new(), table: driver.table(), driver, is_far, oversteps }
+        let Plan { config, is_far, oversteps, has_attempts, .. } = *plan;
+        let (before, table) = (driver.table(), driver.table());
+        Run { config, events: Vec::new(), before, table, driver, is_far, oversteps, has_attempts }
     }
 
-    /// Draws an event and takes the Rust through it: what it did, or what it says where it panics.
-    pub fn go_on(&mut self, random: &mut Random) -> (Event, Result<Stepped, String>) {
-        let event = self.next(random);
-        let stepped = caught(|| self.driver.step(&event));
-        if let Ok(stepped) = &stepped {
-            self.events.push((event.clone(), stepped.clone()));
-            self.table = self.driver.table();
+    /// Takes the Rust through an event: what it did, or what it says where it panics.
+    pub fn take(&mut self, event: &Event) -> Result<Stepped, String> {
+        let stepped = caught(|| self.driver.step(event))?;
+        let after = self.driver.table();
+        if self.has_attempts && !attempts::are_comparable(&self.table, &after) {
+            return Err(
+                "a fault of the comparison: a committed slot is altered or lowered, or has an empty batch".into()
+            );
         }
-        (event, stepped)
+        self.events.push((event.clone(), stepped.clone()));
+        self.before = std::mem::replace(&mut self.table, after);
+        Ok(stepped)
     }
 
-    /// Some events come once more, just as they were.
-    fn next(&self, random: &mut Random) -> Event {
+    pub fn raise(&mut self, row: usize, bar: usize) {
+        self.driver.raise(row, bar);
+        self.table = self.driver.table();
+    }
+
+    /// Draws an event. Some come once more, just as they were.
+    pub fn next(&self, random: &mut Random) -> Event {
         if !self.events.is_empty() && random.one_in(8) {
             return self.events[random.below(self.events.len())].0.clone();
         }
@@ -89,7 +110,8 @@ pub fn run(random: &mut Random) -> Result<Run, String> {
     let plan = Plan::listed(random);
     let mut run = Run::new(&plan);
     for _ in 0..plan.length {
-        run.go_on(random).1?;
+        let event = run.next(random);
+        run.take(&event)?;
     }
     Ok(run)
 }
@@ -209,7 +231,7 @@ fn aim(n: u64, table: &Table, random: &mut Random) -> (Place, u64) {
     (at, random.of(&[less, slot.ballot, slot.ballot, more, any]))
 }
 
-fn slots(table: &Table, are_wanted: impl Fn(&Slot) -> bool) -> Vec<(Place, &Slot)> {
+pub fn slots(table: &Table, are_wanted: impl Fn(&Slot) -> bool) -> Vec<(Place, &Slot)> {
     let mut wanted = Vec::new();
     for (row, held) in table.rows.iter().enumerate() {
         for (col, slot) in held.iter().enumerate().filter(|(_, slot)| are_wanted(slot)) {
@@ -219,7 +241,7 @@ fn slots(table: &Table, are_wanted: impl Fn(&Slot) -> bool) -> Vec<(Place, &Slot
     wanted
 }
 
-fn place(n: u64, random: &mut Random) -> Place {
+pub fn place(n: u64, random: &mut Random) -> Place {
     let (row, any) = (peer(n, random), random.below(4) as u64);
     let col = match random.below(60) {
         0 | 1 => COLUMNS - 1,
@@ -240,7 +262,7 @@ fn ballot(random: &mut Random) -> u64 {
     if random.one_in(30) { u64::MAX } else { random.of(&[0, 1, 1, 2, 3]) }
 }
 
-fn sequence(random: &mut Random) -> u64 {
+pub fn sequence(random: &mut Random) -> u64 {
     match random.below(24) {
         0..=3 => SEQUENCE,
         4 => SEQUENCE - 1,
@@ -250,7 +272,7 @@ fn sequence(random: &mut Random) -> u64 {
 }
 
 /// 0 for nothing, or a column and one.
-fn deps(n: u64, random: &mut Random) -> Vec<u64> {
+pub fn deps(n: u64, random: &mut Random) -> Vec<u64> {
     let mut number = || {
         let any = random.word() % (COLUMNS + 1);
         random.of(&[0, 0, 0, 1, 2, any])
@@ -262,12 +284,12 @@ fn deps(n: u64, random: &mut Random) -> Vec<u64> {
     deps
 }
 
-fn batch(random: &mut Random) -> Vec<Request> {
+pub fn batch(random: &mut Random) -> Vec<Request> {
     let count = random.of(&[0, 1, 1, 1, 2, 2, 3, 4]);
     (0..count).map(|_| request(random)).collect()
 }
 
-fn request(random: &mut Random) -> Request {
+pub fn request(random: &mut Random) -> Request {
     let (key, value) = (key(random), word(random));
     let kind = random.of(&[Kind::Other, Kind::Put { key, value }, Kind::Put { key, value }, Kind::Get { key }]);
     Request { client: word(random), id: word(random), kind }

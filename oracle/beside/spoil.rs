@@ -1,7 +1,7 @@
 //! Calls that are not as a careful caller makes them.
 use crate::bytes::{
-    self, BATCH, BATCH_IN_CONTENTS, CONTENTS, Function, KEY_IN_REQUEST, KIND_IN_REQUEST, REPLICAS, REPLIES, REQUEST,
-    REQUESTS, Request, SET, VALUE_IN_REQUEST, VOTE_BATCHES, VOTE_STATUSES, VOTES, WORD,
+    self, BATCH, BATCH_IN_CONTENTS, CONTENTS, Function, KEY_IN_REQUEST, KIND_IN_REQUEST, ORDER, REPLICAS, REPLIES,
+    REQUEST, REQUESTS, Request, SET, VALUE_IN_REQUEST, VOTE_BATCHES, VOTE_STATUSES, VOTES, WORD,
 };
 use crate::random::Random;
 
@@ -34,6 +34,10 @@ pub fn litter(request: &mut Request, random: &mut Random) {
 /// and no value, a get no value: what stands there is nobody's too.
 pub fn litter_handler(request: &mut Request, random: &mut Random) {
     request.out += random.of(&[0, 0, 1, 100]);
+    if request.list().is_some() {
+        let longer = random.of(&[0, 0, 1, 50]);
+        request.slices[0].resize(ORDER + longer, 0);
+    }
     if !request.function.takes_contents() {
         return;
     }

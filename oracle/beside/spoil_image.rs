@@ -1,6 +1,6 @@
 //! Calls on a table as no careful host makes them: on a copy of the image that is spoiled, or with slices that are.
 use crate::bytes::{
-    self, BATCH_IN_CONTENTS, CONTENTS, Function, IMAGE, KEY_IN_REQUEST, KIND_IN_REQUEST, OUT, REPLICAS, REQUEST,
+    self, BATCH_IN_CONTENTS, CONTENTS, Function, IMAGE, KEY_IN_REQUEST, KIND_IN_REQUEST, ORDER, REPLICAS, REQUEST,
     REQUESTS, Request, SET, WORD,
 };
 use crate::differ;
@@ -52,7 +52,7 @@ pub fn spoiled(request: &Request, image: &[u8], random: &mut Random) -> (Request
     let times = random.of(&[1, 1, 1, 2]);
     match request.function {
         Function::Open => (0..times).for_each(|_| spoil_open(&mut request, &mut spoiling, random)),
-        _ if random.one_in(12) => spoiling.changes = harmless(image, random),
+        function if random.one_in(12) => spoiling.changes = harmless(function, image, random),
         _ => (0..times).for_each(|_| spoil(&mut request, &mut spoiling, image, random)),
     }
     request.slices[1] = spoiling.bytes();
@@ -82,9 +82,13 @@ fn spoil(request: &mut Request, spoiling: &mut Spoiling, image: &[u8], random: &
     let n = image[0] as usize;
     match random.below(19) {
         0 => spoiling.length = length(random),
-        1 => request.out = shorter(OUT, random),
+        1 => request.out = shorter(request.function.lengths()[2], random),
+        2..=4 if request.list().is_some() => request.slices[0].truncate(shorter(ORDER, random)),
         2 if has_contents => request.slices[0].truncate(shorter(CONTENTS, random)),
         3 | 4 if has_contents => spoil_kind(&mut request.slices[0], random),
+        5 | 9 if request.list().is_some() && !unheld.is_empty() => {
+            spoiling.changes.extend(nobodys_slot(request, &unheld, random))
+        }
         5..=8 => spoiling.changes.push(meaningless(random)),
         9..=12 => spoiling.changes.push(beyond_in_head(image, random)),
         13..=15 if !held.is_empty() => spoiling.changes.extend(beyond_in_slot(random.of(&held), n, random)),
@@ -95,10 +99,14 @@ fn spoil(request: &mut Request, spoiling: &mut Spoiling, image: &[u8], random: &
 }
 
 /// Past a row's length any bytes that stand for something: where the call goes, if there is no slot; often as one that heeds
-/// an AcceptReply.
+/// an AcceptReply, or, for an attempt, as one that has run, right behind a row, where dependencies lead to.
 fn nobodys_slot(request: &Request, unheld: &[usize], random: &mut Random) -> Vec<(usize, u8)> {
     let asked = request.index().filter(|index| unheld.contains(index));
-    let at = image::slot_at(asked.unwrap_or(random.of(unheld)));
+    let any = match request.list() {
+        Some(_) => random.of(&first_of_rows(unheld)),
+        None => random.of(unheld),
+    };
+    let at = image::slot_at(asked.unwrap_or(any));
     let mut slot = [0; SLOT];
     spoil::fill(&mut slot, random);
     slot[STATUS] %= Status::ALL.len() as u8;
@@ -108,9 +116,17 @@ fn nobodys_slot(request: &Request, unheld: &[usize], random: &mut Random) -> Vec
         slot[LED] = 1;
         bytes::put(&mut slot, BALLOT, &ballot.to_le_bytes());
     }
+    if request.list().is_some() && random.one_in(2) {
+        slot[STATUS] = Status::Executed as u8;
+    }
     slot[IN_SLOT + 4..IN_SLOT + WORD].fill(0);
     spoil::litter_batch(&mut slot[IN_SLOT + BATCH_IN_CONTENTS..], 0, random);
     (at..).zip(slot).collect()
+}
+
+fn first_of_rows(unheld: &[usize]) -> Vec<usize> {
+    let is_first = |index: &usize| image::place(*index).1 == 0 || !unheld.contains(&(index - 1));
+    unheld.iter().copied().filter(is_first).collect()
 }
 
 /// Of any request, present or not.
@@ -186,10 +202,12 @@ fn beyond_in_slot(index: usize, n: usize, random: &mut Random) -> Vec<(usize, u8
 }
 
 /// Within the bounds, and not looked at by a handler: another own number or super quorum, bars anywhere up to the lengths.
-fn harmless(image: &[u8], random: &mut Random) -> Vec<(usize, u8)> {
+/// An attempt looks at the bars.
+fn harmless(function: Function, image: &[u8], random: &mut Random) -> Vec<(usize, u8)> {
     let [n, _, simple, _] = [0, 1, 2, 3].map(|at| image[at] as usize);
     let own = random.below(n) as u8;
     let sup = (simple + random.below(n - simple + 1)) as u8;
     let bar = |row: usize| (BARS + row, random.below(image[LENGTHS + row] as usize + 1) as u8);
-    (0..REPLICAS).map(bar).chain([(1, own), (3, sup)]).collect()
+    let bars = if function == Function::Attempt { 0..0 } else { 0..REPLICAS };
+    bars.map(bar).chain([(1, own), (3, sup)]).collect()
 }

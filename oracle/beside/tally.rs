@@ -1,5 +1,5 @@
 //! What was compared, how often, and the first difference.
-use crate::bytes::Function;
+use crate::bytes::{self, Answer, Function};
 use crate::handlers::Course;
 use crate::{rust_says, words};
 use std::collections::BTreeMap;
@@ -12,7 +12,7 @@ struct Counts {
     by_code: BTreeMap<u64, u64>,
 }
 
-/// Of the handlers.
+/// Of the handlers, or with attempts.
 #[derive(Default)]
 struct Runs {
     runs: u64,
@@ -21,10 +21,19 @@ struct Runs {
     records: [u64; 7],
 }
 
+/// Of the attempts on the tables of the runs, without those refused.
+#[derive(Default)]
+struct Attempts {
+    all: u64,
+    most_run: u64,
+    by_name: BTreeMap<&'static str, u64>,
+}
+
 #[derive(Default)]
 pub struct Tally {
     counts: [Counts; Function::ALL.len()],
-    runs: Runs,
+    runs: [Runs; 2],
+    attempts: Attempts,
     first_difference: Option<String>,
 }
 
@@ -40,11 +49,22 @@ impl Tally {
     }
 
     pub fn add_run(&mut self, course: &Course) {
-        let r = &mut self.runs;
+        let r = &mut self.runs[usize::from(course.has_attempts)];
         r.runs += 1;
         r.spoiled += course.spoiled();
-        r.longest = r.longest.max(course.calls.len());
+        r.longest = r.longest.max(course.compared());
         r.records.iter_mut().zip(course.records).for_each(|(sum, more)| *sum += more);
+    }
+
+    /// Of an attempt on the table of the run; others have met nothing.
+    pub fn add_met(&mut self, met: &[&'static str], expected: &Result<Answer, String>) {
+        let Some(answer) = expected.as_ref().ok().filter(|_| !met.is_empty()) else {
+            return;
+        };
+        let a = &mut self.attempts;
+        a.all += 1;
+        a.most_run = a.most_run.max(bytes::word(&answer.out, 0));
+        met.iter().for_each(|name| *a.by_name.entry(name).or_default() += 1);
     }
 
     pub fn differ(&mut self, function: Function, difference: impl FnOnce() -> String) {
@@ -61,10 +81,18 @@ impl Tally {
     }
 
     fn print_runs(&self) {
-        let Runs { runs, spoiled, longest, records } = &self.runs;
-        let [_, log, notice, _, _, reply, _] = records;
-        println!("runs of the handlers: {runs}, the longest of {longest} calls; {spoiled} calls spoiled");
-        println!("  put out: {log} log records, {notice} CommitNotices to all, {reply} ExpPrepareReplies");
+        for (name, r) in ["runs of the handlers", "runs with attempts"].iter().zip(&self.runs) {
+            let Runs { runs, spoiled, longest, records } = r;
+            let [_, log, notice, _, _, reply, _] = records;
+            println!("{name}: {runs}, the longest of {longest} calls; {spoiled} calls spoiled");
+            println!("  put out: {log} log records, {notice} CommitNotices to all, {reply} ExpPrepareReplies");
+        }
+    }
+
+    fn print_attempts(&self) {
+        let Attempts { all, most_run, by_name } = &self.attempts;
+        println!("attempts on the table of a run, not refused: {all}, at most {most_run} slots run by one");
+        by_name.iter().for_each(|(name, times)| println!("  {name}: {times}"));
     }
 
     pub fn print(&self) {
@@ -79,6 +107,7 @@ impl Tally {
             println!("  {}: {}", function.name(), times.join(", "));
         }
         self.print_runs();
+        self.print_attempts();
         let (times, said) = rust_says::empty_lists();
         println!("panics on an empty list of votes, caught: {times}\n  {}", said.replace('\n', " "));
         if let Some(first) = &self.first_difference {

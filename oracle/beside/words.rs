@@ -1,6 +1,7 @@
 //! Cases and answers in words, for whoever has to look at a difference.
-use crate::bytes::{self, Answer, DONE, Function, IGNORED, REPLICAS, SET, WAIT, WORD};
+use crate::bytes::{self, ALREADY, Answer, DONE, Function, IGNORED, NOT_YET, REPLICAS, SET, WAIT, WORD};
 use crate::cases::Case;
+use crate::runs::Step;
 use summerset::drive::deps_of;
 use summerset::plain::{Config, Contents, Event, Place, Reply, Vote};
 use summerset::show;
@@ -11,6 +12,8 @@ pub fn meaning(code: u64) -> String {
         0 => "wrong length".into(),
         DONE => "done".into(),
         IGNORED => "ignored".into(),
+        NOT_YET => "NotYet".into(),
+        ALREADY => "Already".into(),
         WAIT => "wait".into(),
         105 => "Committed".into(),
         106 => "Accepting".into(),
@@ -42,7 +45,14 @@ fn vote(v: &Vote) -> String {
     format!("{}: {:?} {}", v.replica, v.status, show::contents(&v.contents))
 }
 
-pub fn event(event: &Event) -> String {
+pub fn step(step: &Step) -> String {
+    match step {
+        Step::Event(happened) => event(happened),
+        Step::Raise { row, bar } => format!("the bar of row {row} is raised to {bar}"),
+    }
+}
+
+fn event(event: &Event) -> String {
     let message = |peer: &u64, at: &Place, ballot: &u64| format!("{}.{} from {peer}, ballot {ballot}", at.row, at.col);
     match event {
         Event::Store { what, peer, at, ballot, seq, deps, batch } => {
@@ -52,7 +62,8 @@ pub fn event(event: &Event) -> String {
         Event::AcceptReply { peer, at, ballot } => format!("AcceptReply {}", message(peer, at, ballot)),
         Event::ExpPrepare { peer, at, ballot } => format!("ExpPrepare {}", message(peer, at, ballot)),
         Event::Lead { at } => format!("Lead {}.{}", at.row, at.col),
-        Event::Logged { .. } | Event::Attempt { .. } => format!("{event:?}"),
+        Event::Attempt { at } => format!("Attempt {}.{}", at.row, at.col),
+        Event::Logged { .. } => format!("{event:?}"),
     }
 }
 

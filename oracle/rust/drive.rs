@@ -30,6 +30,12 @@ impl Driver {
         self.replica.table()
     }
 
+    /// Raises a row's commit bar, which by the rules only log events do: they have no C function yet, so the comparison
+    /// raises bars by itself, here and in the image alike.
+    pub fn raise(&mut self, row: usize, bar: usize) {
+        self.replica.raise(row, bar);
+    }
+
     /// Refusals first, then the Rust. Where the Rust gives no answer, it is read from what the call did.
     pub fn step(&mut self, event: &Event) -> Stepped {
         if let Some(number) = self.refusal(event) {

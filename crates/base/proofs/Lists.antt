@@ -3,11 +3,24 @@ use mathlib.Core.Path.{_≡_, refl, sym, _∙_}
 use mathlib.Core.List.{List, [], _∷_, map, foldl}
 use Prim.Native.Nat.{ℕ, suc, zero, _<_}
 use native.Mathlib.Omega.{arith}
+use borrow.Kind.Array.{good-length, eInt, eBool}
+use denote.Array.{Array}
+use denote.Laws.{Is}
+use mir.Syntax.{Width}
+use mir.Val.{Val}
+use mathlib.Core.Bool.{Bool}
 use lib.ListN.{length, getD, replicate, length-map}
 
 -- an array of structs is as long as the list of what its relation says of them
 pub length-mapped : (X Y : Type 0) (f : X → Y) (l : List X) (n : ℕ) → length (map f l) ≡ n → length l ≡ n
 length-mapped X Y f l n e = sym (length-map l f) ∙ e
+
+-- and an array of numbers or marks as long as it is declared
+pub bytes-length : (w : Width) (n : ℕ) (s : List ℕ) (vs : List Val) → Is (Array (eInt w .ty) n) (map (λ (v : ℕ). v) s) vs → length s ≡ n
+bytes-length w n s vs p = length-mapped ℕ ℕ (λ (v : ℕ). v) s n (good-length (eInt w) n (map (λ (v : ℕ). v) s) vs p)
+
+pub bools-length : (n : ℕ) (s : List Bool) (vs : List Val) → Is (Array (eBool .ty) n) (map (λ (v : Bool). v) s) vs → length s ≡ n
+bools-length n s vs p = length-mapped Bool Bool (λ (v : Bool). v) s n (good-length eBool n (map (λ (v : Bool). v) s) vs p)
 
 -- inside a list the default does not show
 pub inside : {A : Type 0} (l : List A) (i : ℕ) (d e : A) → i < length l → getD l i d ≡ getD l i e

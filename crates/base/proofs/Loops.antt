@@ -6,6 +6,7 @@ use mathlib.Core.Logic.{⊎-elim}
 use Prim.Native.Nat.{ℕ, suc, zero, _+_, _<_, _≤_, max}
 use native.Mathlib.Nat.{eq-or-lt-of-le, le-of-suc-le-suc}
 use native.Mathlib.Numerals.{add-one}
+use native.Mathlib.Decide.{decLt}
 use native.Mathlib.Omega.{arith}
 use lib.ListN.{length, getD, take, drop, set, drop-of-length-le, length-append, List·getD-append}
 use lib.Seq.{take-all, take-suc, drop-cons, length-take-le, append-snoc, set-at, set-getD, getD-at}
@@ -89,6 +90,23 @@ count-less p q (suc n) h = go (p n) refl (q n) refl (count-less p q n (λ i l. h
     go false e true f k = omega arith
     go false e false f k = k
 
+-- two tests that no number passes both of, each no weaker than a third, together count no more than it
+pub count-parts : (p q r : ℕ → Bool) (n : ℕ) → ((i : ℕ) → i < n → p i ≡ true → (r i ≡ true) × (q i ≡ false)) → ((i : ℕ) → i < n → q i ≡ true → r i ≡ true) → countBelow n p + countBelow n q ≤ countBelow n r
+unfolding countBelow
+count-parts p q r zero f g = omega arith
+count-parts p q r (suc n) f g =
+    go (p n) refl (q n) refl (r n) refl (count-parts p q r n (λ i l. f i (omega arith)) (λ i l. g i (omega arith)))
+  where
+    go : (a : Bool) → p n ≡ a → (b : Bool) → q n ≡ b → (c : Bool) → r n ≡ c → countBelow n p + countBelow n q ≤ countBelow n r
+        → cond a (suc (countBelow n p)) (countBelow n p) + cond b (suc (countBelow n q)) (countBelow n q) ≤ cond c (suc (countBelow n r)) (countBelow n r)
+    go true e true k c d i = absurd (true≢false (sym k ∙ f n (omega arith) e .1))
+    go true e false k true d i = omega arith
+    go true e false k false d i = absurd (true≢false (sym (f n (omega arith) e .0) ∙ d))
+    go false e true k true d i = omega arith
+    go false e true k false d i = absurd (true≢false (sym (g n (omega arith) k) ∙ d))
+    go false e false k true d i = omega arith
+    go false e false k false d i = i
+
 pub count-at-most : (p : ℕ → Bool) (n : ℕ) → countBelow n p ≤ n
 unfolding countBelow
 count-at-most p zero = omega arith
@@ -120,6 +138,15 @@ unfolding greatestBelow
 greatest-at-most f b zero h = omega arith
 greatest-at-most f b (suc n) h = omega (arith, greatest-at-most f b n (λ i l. h i (omega arith)), h n (omega arith))
 
+-- what is below the greatest is below one of them
+pub greatest-from : (f : ℕ → ℕ) (n c : ℕ) → c < greatestBelow n f → (i : ℕ) × (i < n) × (c < f i)
+unfolding greatestBelow
+greatest-from f zero c h = absurd (omega arith)
+greatest-from f (suc n) c h = elim (decLt c (f n)) [
+  | yes lt ↦ (n, omega arith, lt)
+  | no ge ↦ let w = greatest-from f n c (omega arith) in (w .0, omega (arith, w .1), w .2)
+]
+
 -- ---- a list of what the numbers below a bound give
 
 pub length-below : {A : Type 0} (n : ℕ) (f : ℕ → A) → length (listBelow n f) ≡ n
@@ -135,6 +162,11 @@ below-at {A} (suc n) f i a l =
     (λ (e : i ≡ n). rw e (getD-at (listBelow n f) (f n) [] a n (length-below n f)))
     (λ (k : i < n). List·getD-append (listBelow n f) (f n ∷ []) a i (omega (arith, length-below n f)) ∙ below-at n f i a k)
     (eq-or-lt-of-le (le-of-suc-le-suc l))
+
+pub below-same : {A : Type 0} (n : ℕ) (f g : ℕ → A) → ((i : ℕ) → i < n → f i ≡ g i) → listBelow n f ≡ listBelow n g
+unfolding listBelow
+below-same zero f g h = refl
+below-same (suc n) f g h = rw (h n (omega arith), below-same n f g (λ i l. h i (omega arith)))
 
 -- ---- an array filled from the front
 
@@ -161,6 +193,21 @@ module _ {A : Type 0} (z d : List A) (e : length z ≡ length d) where
 
   pub mix-all : (i : ℕ) → length d ≤ i → mix z d i ≡ z
   mix-all i l = rw (take-all i z (omega arith), drop-of-length-le d l, append-nil)
+
+-- an array that a loop fills with what each number gives
+module _ {A : Type 0} (n : ℕ) (f : ℕ → A) (d : List A) (e : length d ≡ n) where
+  as-long : length (listBelow n f) ≡ length d
+  as-long = length-below n f ∙ sym e
+
+  pub fill-more : (i : ℕ) (v : A) → i < n → v ≡ f i → set (mix (listBelow n f) d i) i v ≡ mix (listBelow n f) d (i + 1)
+  fill-more i v l h =
+      ap (λ (x : A). set (mix (listBelow n f) d i) i x) (h ∙ sym (below-at n f i v l)) ∙ mix-more (listBelow n f) d as-long i v (omega arith)
+
+  pub fill-keep : (i : ℕ) (a : A) → i < n → getD d i a ≡ f i → mix (listBelow n f) d i ≡ mix (listBelow n f) d (i + 1)
+  fill-keep i a l h = mix-keep (listBelow n f) d as-long i a (omega arith) (below-at n f i a l ∙ sym h)
+
+  pub fill-all : (i : ℕ) → n ≤ i → mix (listBelow n f) d i ≡ listBelow n f
+  fill-all i l = mix-all (listBelow n f) d as-long i (omega arith)
 
 -- ---- a fold over what each element of a list's front gives, element by element
 

@@ -2,7 +2,7 @@
 use mathlib.Core.Path.{_≡_, refl, _∙_}
 use mathlib.Core.List.{List, [], _∷_, _++_}
 use mathlib.Core.Bool.{Bool, true, false}
-use Prim.Native.Nat.{ℕ, suc}
+use Prim.Native.Nat.{ℕ, suc, _<_}
 use native.Mathlib.Omega.{arith}
 use Rattle.base.specs.Refusals.{firstRefusal}
 
@@ -52,3 +52,16 @@ first-append-passed a b n e = passed-append a b (first-passed a n e)
 pub refused-exactly : (before after : List (Bool × ℕ)) (ok : Bool) (k : ℕ) → AllPass before → ok ≡ false → firstRefusal (before ++ ((ok, k) ∷ after)) ≡ k
 unfolding firstRefusal
 refused-exactly before after ok k h e = passed-append before ((ok, k) ∷ after) h ∙ rw e
+
+-- ---- the first test that fails gives its number
+
+-- said of each test's number, where it fails and those before it pass
+abbrev pub ForFirst : (ℕ → Type 0) → List (Bool × ℕ) → Type 0
+ForFirst P [] = Unit
+ForFirst P ((ok, number) ∷ rest) = (ok ≡ false → P number) × (ok ≡ true → ForFirst P rest)
+
+pub at-first : (P : ℕ → Type 0) (l : List (Bool × ℕ)) → ForFirst P l → 0 < firstRefusal l → P (firstRefusal l)
+unfolding firstRefusal
+at-first P [] h l = absurd (omega arith)
+at-first P ((true, number) ∷ rest) h l = at-first P rest (h .1 refl) l
+at-first P ((false, number) ∷ rest) h l = h .0 refl

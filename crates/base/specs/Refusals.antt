@@ -31,6 +31,10 @@ overLimit = 6
 abbrev pub noSlot : ℕ
 noSlot = 7
 
+-- an order list of fewer than 224 entries
+abbrev pub shortOrder : ℕ
+shortOrder = 8
+
 -- the limit of a sequence
 abbrev pub sequenceLimit : ℕ
 sequenceLimit = 4294967295

@@ -13,4 +13,6 @@ pub const OVER_LIMIT: u64 = 6; // a sequence, given or about to be stored, over 
 
 pub const NO_SLOT: u64 = 7; // a log event or Lead for a slot not in the table
 
+pub const SHORT_ORDER: u64 = 8; // an order list of fewer than 224 entries
+
 pub const SEQUENCE_LIMIT: u64 = 4294967295;

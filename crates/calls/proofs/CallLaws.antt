@@ -11,15 +11,15 @@ use Rattle.base.specs.Refusals.{outsideBounds}
 use Rattle.base.proofs.Loops.{both-true}
 use Rattle.table.specs.declared.place.Place.{Place}
 use Rattle.table.specs.declared.table.Table.{Table}
-use Rattle.handlers.specs.Outcome.{Handled, refused, ignored, done, outcomeOf}
-use Rattle.handlers.specs.Proposals.{proposed}
+use Rattle.outcomes.specs.Outcome.{Handled, refused, ignored, done, outcomeOf}
+use Rattle.outcomes.specs.declared.message.Message.{Message}
+use Rattle.outcomes.specs.declared.message.Proposal.{Proposal}
+use Rattle.proposing.specs.Proposals.{proposed}
+use Rattle.proposing.specs.declared.proposals.Phase.{Phase}
+use Rattle.proposing.specs.declared.proposals.Phase.the-variants as Phases
 use Rattle.handlers.specs.Replies.{acceptReply}
 use Rattle.handlers.specs.Prepare.{expPrepare}
 use Rattle.handlers.specs.Lead.{leadSlot}
-use Rattle.handlers.specs.declared.message.Message.{Message}
-use Rattle.handlers.specs.declared.message.Proposal.{Proposal}
-use Rattle.handlers.specs.declared.proposals.Phase.{Phase}
-use Rattle.handlers.specs.declared.proposals.Phase.the-variants as Phases
 use Rattle.handlers.proofs.CaseLaws.{WhenRefused}
 use Rattle.handlers.proofs.RefusedLaws.{MessageRefused, outside, no-replica, no-column, ContentsRefused, bad-dependency, bad-batch, over-limit, ProposalRefused, by-message, by-contents, stored-over, LeadRefused, no-row, no-slot, reply-exactly, prepare-exactly, proposed-exactly, lead-exactly}
 use Rattle.layout.proofs.Laying.{lay-length}

@@ -31,16 +31,16 @@ use Rattle.table.specs.declared.table.Table.{Table}
 use Rattle.table.proofs.SlotReads.{index-below, put-length, nulls-cases, grown, grown-len, grown-len-other, NullOrKept, null-or-kept}
 use Rattle.table.proofs.BoundLaws.{put-either}
 use Rattle.table.proofs.OpenLaws.{open-empty}
-use Rattle.handlers.specs.Outcome.{Handled}
-use Rattle.handlers.specs.Proposals.{raisedBy, proposed}
+use Rattle.outcomes.specs.Outcome.{Handled}
+use Rattle.outcomes.specs.declared.message.Message.{Message}
+use Rattle.outcomes.specs.declared.message.Proposal.{Proposal}
+use Rattle.proposing.specs.Proposals.{raisedBy, proposed}
+use Rattle.proposing.specs.declared.proposals.Phase.{Phase}
+use Rattle.proposing.specs.declared.proposals.Phase.the-variants.{PreAccept, Accept, CommitNotice}
 use Rattle.handlers.specs.Replies.{acceptReply}
 use Rattle.handlers.specs.Prepare.{expPrepare}
 use Rattle.handlers.specs.Lead.{leadSlot}
-use Rattle.handlers.specs.declared.message.Message.{Message}
-use Rattle.handlers.specs.declared.message.Proposal.{Proposal}
-use Rattle.handlers.specs.declared.proposals.Phase.{Phase}
-use Rattle.handlers.specs.declared.proposals.Phase.the-variants.{PreAccept, Accept, CommitNotice}
-use Rattle.handlers.proofs.RefusalLaws.{Heard, placed-row}
+use Rattle.outcomes.proofs.RefusalLaws.{Heard, placed-row}
 use Rattle.handlers.proofs.CaseLaws.{Each, filled, slotBefore, toStore, slotAfter, slotMarked, proposed-cases, reply-cases, mark-cases, prepare-cases, lead-cases}
 use Rattle.layout.specs.Batches.{RequestFits, BatchFits}
 use Rattle.image.specs.Slot.{SlotWhole}

@@ -1,21 +1,20 @@
 -- A call on an image: the table read, the entry, the table and what it puts out written. One shape for every handler.
 use mathlib.Core.List.{List}
-use mathlib.Core.Bool.{Bool, true, false, cond, _&&_}
+use mathlib.Core.Bool.{Bool, cond, _&&_}
 use Prim.Native.Nat.{ℕ}
 use lib.Dec.{leb, eqb}
 use lib.ListN.{length}
-use Rattle.base.specs.Answer.{numberOf}
+use Rattle.base.specs.Answer.{numberOf, isRefused}
 use Rattle.base.specs.Refusals.{outsideBounds}
 use Rattle.base.specs.declared.answer.Answer.{Answer}
-use Rattle.base.specs.declared.answer.Answer.the-variants.{Done, Ignored, NotYet, Already, Refused}
 use Rattle.table.specs.declared.table.Table.{Table}
-use Rattle.handlers.specs.Outcome.{Handled, outcomeOf}
-use Rattle.handlers.specs.Proposals.{preAccept, accept, commitNotice}
+use Rattle.outcomes.specs.Outcome.{Handled, outcomeOf}
+use Rattle.outcomes.specs.declared.message.Proposal.{Proposal}
+use Rattle.outcomes.specs.declared.outcome.Outcome.{Outcome}
+use Rattle.proposing.specs.Proposals.{preAccept, accept, commitNotice}
 use Rattle.handlers.specs.Replies.{acceptReply}
 use Rattle.handlers.specs.Prepare.{expPrepare}
 use Rattle.handlers.specs.Lead.{leadSlot}
-use Rattle.handlers.specs.declared.message.Proposal.{Proposal}
-use Rattle.handlers.specs.declared.outcome.Outcome.{Outcome}
 use Rattle.layout.specs.Numbers.{lay}
 use Rattle.image.specs.Tables.{imageWidth, tableAt, tableBytes, imageKnown}
 use Rattle.image.specs.Output.{outputWidth, outputBytes}
@@ -41,13 +40,6 @@ abbrev pub unchanged : ℕ → List ℕ → List ℕ → Called
 unchanged code image out = record { code = code; image = image; out = out }
 
 -- a refusal writes nothing
-abbrev pub isRefused : Answer → Bool
-isRefused Done = false
-isRefused Ignored = false
-isRefused NotYet = false
-isRefused Already = false
-isRefused (Refused number) = true
-
 abbrev pub imageWith : Answer → Table → List ℕ → List ℕ
 imageWith answer t image = cond (isRefused answer) image (tableBytes t)
 

@@ -2,17 +2,15 @@
 ghost use mathlib.Core.Path.{_≡_};
 ghost use Prim.Native.Nat.{_≤_};
 ghost use lib.ListN.{length};
-ghost use Rattle.handlers.specs.Outcome.{outcomeOf};
+ghost use Rattle.outcomes.specs.Outcome.{outcomeOf};
+ghost use Rattle.base.specs.Answer.{isRefused};
 ghost use Rattle.image.specs.Tables.{imageWidth};
 ghost use Rattle.image.specs.Output.{outputWidth};
-ghost use Rattle.calls.specs.Calls.{isRefused, settled, onImage, handledBy};
+ghost use Rattle.calls.specs.Calls.{settled, onImage, handledBy};
 use base::answer::Answer;
 use base::refusals;
 use handlers::lead;
-use handlers::message::Proposal;
-use handlers::outcome::Outcome;
 use handlers::prepare;
-use handlers::proposals;
 use handlers::replies;
 use image::output;
 use image::output::put_output;
@@ -20,6 +18,9 @@ use image::tables;
 use image::tables::is_known;
 use image::tables::put_table;
 use image::tables::table_at;
+use outcomes::message::Proposal;
+use outcomes::outcome::Outcome;
+use proposing::proposals;
 use table::table::Table;
 
 // What is answered where a slice is short, or the image has another length.

@@ -9,17 +9,17 @@ use Rattle.deps.specs.Batches.{batchFits, sameRequest, sameBatch}
 use Rattle.keys.specs.Columns.{identifyOf, refreshedBy, keysFit}
 use Rattle.votes.specs.Contents.{sameContents, joinOf, entriesOf}
 use Rattle.votes.specs.Holder.{lowestBelow, highestBelow}
-use Rattle.votes.specs.Refusal.{partsFit, refusalOf}
 use Rattle.votes.specs.Identical.{firstEnough, mostEquals}
+use Rattle.refusing.specs.Refusal.{partsFit, refusalOf}
 use Rattle.decisions.specs.Fast.{joinedBelow, goneCount, fastDecision, fastAnswer}
-use Rattle.decisions.specs.Recovery.{highestVote, suchVotes, groupBy, choiceBy, answerBy}
+use Rattle.recovering.specs.Recovery.{highestVote, suchVotes, groupBy, choiceBy, answerBy}
 use Rattle.base.specs.Refusals.{firstRefusal}
 use Rattle.table.specs.Table.{emptyTable, holds, nullsIn, nullsTo, storedAt}
 use Rattle.table.specs.Bounds.{rowFits, rowsFit, slotsFit, tableFits}
 use Rattle.slots.specs.Slot.{slotFits}
 use Rattle.table.specs.Highest.{isHeld, highestOf}
-use Rattle.handlers.specs.Refusal.{proposalRefusal}
-use Rattle.handlers.specs.Proposals.{raisedBy, proposed}
+use Rattle.outcomes.specs.Refusal.{proposalRefusal}
+use Rattle.proposing.specs.Proposals.{raisedBy, proposed}
 use Rattle.cases.specs.Cases.{Claim, Every, cases}
 
 pub every-case : Every cases

@@ -12,10 +12,10 @@ use Rattle.base.specs.declared.status.Status.the-variants.{Null, PreAccepting, 
 use Rattle.deps.specs.declared.batches.Request.{Request}
 use Rattle.votes.specs.Answer.{Decided, wait, committed, accepting, preAccepting, refused}
 use Rattle.decisions.specs.Fast.{fastAnswer}
-use Rattle.decisions.specs.Recovery.{choiceAnswer}
+use Rattle.recovering.specs.Recovery.{choiceAnswer}
 use Rattle.votes.specs.declared.contents.Contents.{Contents}
-use Rattle.decisions.specs.declared.recovery.Rule.{Rule}
-use Rattle.decisions.specs.declared.recovery.Rule.the-variants.{Rust, Paper}
+use Rattle.recovering.specs.declared.recovery.Rule.{Rule}
+use Rattle.recovering.specs.declared.recovery.Rule.the-variants.{Rust, Paper}
 use Rattle.cases.specs.Notation.{rows, put, get, other, Stored, keysAfter, config, seven, Says, nothing-said, reply, vote, marks, seqs, cols, statuses, batches, contents, atDefault, Holds, sentAgain, preAccepted}
 
 pub data Case : Type 0 where

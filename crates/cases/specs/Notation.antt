@@ -14,7 +14,7 @@ use Rattle.base.specs.declared.answer.Answer.the-variants.{Done}
 use Rattle.deps.specs.declared.batches.Batch.{Batch}
 use Rattle.votes.specs.Contents.{contentsOf}
 use Rattle.votes.specs.declared.contents.Contents.{Contents}
-use Rattle.decisions.specs.declared.recovery.Prepare.{Prepare}
+use Rattle.recovering.specs.declared.recovery.Prepare.{Prepare}
 use Rattle.deps.specs.declared.sets.DepSet.{DepSet}
 use Rattle.deps.specs.declared.batches.Kind.the-variants.{Other, Put, Get}
 use Rattle.deps.specs.declared.batches.Request.{Request}
@@ -24,11 +24,11 @@ use Rattle.slots.specs.Slot.{nullSlot, storedWith, heardFrom}
 use Rattle.table.specs.Table.{emptyTable, slotOf}
 use Rattle.slots.specs.declared.slot.Slot.{Slot}
 use Rattle.table.specs.declared.table.Table.{Table}
-use Rattle.handlers.specs.Output.{outputOf, logOf}
-use Rattle.handlers.specs.Outcome.{outcomeOf}
-use Rattle.handlers.specs.Proposals.{preAccept}
-use Rattle.handlers.specs.declared.message.Proposal.{Proposal}
-use Rattle.handlers.specs.declared.outcome.Outcome.{Outcome}
+use Rattle.outcomes.specs.Output.{outputOf, logOf}
+use Rattle.outcomes.specs.Outcome.{outcomeOf}
+use Rattle.outcomes.specs.declared.message.Proposal.{Proposal}
+use Rattle.outcomes.specs.declared.outcome.Outcome.{Outcome}
+use Rattle.proposing.specs.Proposals.{preAccept}
 
 -- [1,_,3] is 1 ∷ _ ∷ 3, row by row from row 0, and nothing in the rows after
 abbrev pub numberOf : Dep → ℕ

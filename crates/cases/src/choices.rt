@@ -4,9 +4,9 @@ use super::text;
 use base::config::Config;
 use base::status::Status;
 use decisions::fast;
-use decisions::recovery;
-use decisions::recovery::Prepare;
 use deps::batches::Batch;
+use recovering::recovery;
+use recovering::recovery::Prepare;
 
 fn three() -> Config {
     Config {

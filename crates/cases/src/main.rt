@@ -3,6 +3,7 @@ mod text; // text.rt: how sets, batches, decisions, slots and records are printe
 mod sets; // sets.rt: union and identify
 mod choices; // choices.rt: the fast decision and the recovery choices
 mod messages; // messages.rt: the handlers
+mod running; // running.rt: the attempt
 
 fn main() {
     sets::unions();
@@ -16,4 +17,5 @@ fn main() {
     messages::marks();
     messages::sequences();
     messages::opens();
+    running::attempts();
 }

@@ -4,22 +4,22 @@ use super::text;
 use deps::batches::Batch;
 use deps::sets::DepSet;
 use handlers::lead;
-use handlers::message::Message;
-use handlers::message::Proposal;
-use handlers::outcome::Outcome;
 use handlers::prepare;
-use handlers::proposals;
 use handlers::replies;
+use outcomes::message::Message;
+use outcomes::message::Proposal;
+use outcomes::outcome::Outcome;
+use proposing::proposals;
 use table::open;
 use table::place::Place;
 use table::table::Table;
 
-fn empty() -> Table {
+pub(crate) fn empty() -> Table {
     let opened = open::open(3, 0, 2, 3);
     opened.table
 }
 
-fn from(peer: usize, row: usize, col: usize, ballot: u64) -> Message {
+pub(crate) fn from(peer: usize, row: usize, col: usize, ballot: u64) -> Message {
     let at = Place { row: row, col: col };
     Message {
         peer: peer,
@@ -29,7 +29,7 @@ fn from(peer: usize, row: usize, col: usize, ballot: u64) -> Message {
 }
 
 // A put of the key that names no dependency.
-fn put(message: Message, seq: u64, key: u16) -> Proposal {
+pub(crate) fn put(message: Message, seq: u64, key: u16) -> Proposal {
     let batch = Batch::of(sets::put(key));
     Proposal {
         message: message,

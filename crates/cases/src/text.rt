@@ -4,10 +4,10 @@ use base::status::Status;
 use deps::batches::Batch;
 use deps::batches::Kind;
 use deps::sets::DepSet;
-use handlers::output::Output;
-use handlers::output::Record;
-use handlers::output::What;
 use libc::STDOUT_FILENO;
+use outcomes::output::Output;
+use outcomes::output::Record;
+use outcomes::output::What;
 use table::place::Place;
 use table::table::Table;
 use votes::answer::Decision;
@@ -205,4 +205,23 @@ fn reply(to: usize, kind: &[u8]) {
     word(b"to ");
     number(to as u64);
     word(kind);
+}
+
+// The slots that an attempt has run, given the first two entries of its list: no case of this program runs more.
+pub(crate) fn ran(count: usize, first: u8, second: u8) {
+    if 0 < count {
+        entry(first);
+    }
+    if 1 < count {
+        entry(second);
+    }
+}
+
+fn entry(e: u8) {
+    word(b" ");
+    let at = Place {
+        row: (e / 32) as usize,
+        col: (e % 32) as usize,
+    };
+    place(at);
 }

@@ -8,11 +8,12 @@ use Rattle.votes.specs.Answer.{Decided, decisionOf}
 use Rattle.votes.specs.declared.answer.Decision.{Decision}
 use Rattle.votes.specs.declared.contents.Contents.{Contents}
 use Rattle.layout.specs.Numbers.{wordBytes, lay}
-use Rattle.layout.specs.Sets.{setBytes}
 use Rattle.layout.specs.Batches.{batchBytes}
+use Rattle.octets.specs.Sets.{setBytes}
 use Rattle.layout.proofs.Laying.{Laid, next}
 use Rattle.layout.proofs.NumberLaws.{word-length}
-use Rattle.layout.proofs.BatchLaws.{set-length, batch-length}
+use Rattle.layout.proofs.BatchLaws.{batch-length}
+use Rattle.octets.proofs.SetLaws.{set-length}
 use Rattle.deciding.specs.Codes.{stepCode, codeOf}
 use Rattle.deciding.specs.Answers.{contentsWidth, contentsBytes, outWith, outOf}
 

@@ -7,8 +7,8 @@ use native.Mathlib.Omega.{arith}
 use lib.ListN.{length}
 use Rattle.base.specs.declared.config.Config.{Config}
 use Rattle.votes.specs.Answer.{Decided, wait, committed, accepting, preAccepting, refused, decisionOf}
-use Rattle.decisions.specs.declared.recovery.Prepare.{Prepare}
-use Rattle.decisions.specs.declared.recovery.Rule.{Rule}
+use Rattle.recovering.specs.declared.recovery.Prepare.{Prepare}
+use Rattle.recovering.specs.declared.recovery.Rule.{Rule}
 use Rattle.layout.specs.Numbers.{lay}
 use Rattle.layout.proofs.Laying.{lay-length}
 use Rattle.deciding.specs.Codes.{codeOf}

@@ -13,18 +13,18 @@ use Rattle.base.specs.declared.status.Status.the-variants.{PreAccepting, Accept
 use Rattle.votes.specs.Answer.{Decided, wait, committed, accepting, preAccepting, refused, unlessRefused}
 use Rattle.votes.specs.Holder.{orElse}
 use Rattle.votes.specs.Contents.{noOpContents}
-use Rattle.votes.specs.Refusal.{bothFit, partsFit, refusalOf}
 use Rattle.votes.specs.Identical.{firstEnough}
+use Rattle.refusing.specs.Refusal.{bothFit, partsFit, refusalOf}
 use Rattle.decisions.specs.Fast.{joined, possible, fastDecision, repliesOf, fastAnswer}
-use Rattle.decisions.specs.Recovery.{highestVote, groupBy, choiceBy, namedFit, countsOf, answerBy}
-use Rattle.votes.specs.declared.refusal.Part.{Part}
-use Rattle.votes.specs.declared.refusal.Part.the-variants.{Deps, Batch, Sequence}
+use Rattle.recovering.specs.Recovery.{highestVote, groupBy, choiceBy, namedFit, countsOf, answerBy}
 use Rattle.votes.specs.declared.contents.Contents.{Contents}
 use Rattle.votes.specs.declared.holder.Holder.{Holder}
 use Rattle.votes.specs.declared.holder.Holder.the-variants.{Nobody, Replica}
-use Rattle.decisions.specs.declared.recovery.Counts.{Counts}
-use Rattle.decisions.specs.declared.recovery.Prepare.{Prepare}
-use Rattle.decisions.specs.declared.recovery.Rule.{Rule}
+use Rattle.refusing.specs.declared.refusal.Part.{Part}
+use Rattle.refusing.specs.declared.refusal.Part.the-variants.{Deps, Batch, Sequence}
+use Rattle.recovering.specs.declared.recovery.Counts.{Counts}
+use Rattle.recovering.specs.declared.recovery.Prepare.{Prepare}
+use Rattle.recovering.specs.declared.recovery.Rule.{Rule}
 use Rattle.deciding.specs.Codes.{codeOf}
 use Rattle.deciding.specs.Fast.{fastKnown, fastRead, fastDecided}
 use Rattle.deciding.specs.Recovery.{votesKnown, choiceRead, choiceDecided}

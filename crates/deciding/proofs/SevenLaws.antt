@@ -6,9 +6,9 @@ use lib.ListN.{length, getD, drop}
 use Rattle.base.specs.declared.status.Status.{Status}
 use Rattle.deps.specs.declared.batches.Batch.{Batch}
 use Rattle.layout.specs.Numbers.{wordOf}
-use Rattle.layout.specs.Sets.{rowsAt}
 use Rattle.layout.specs.Batches.{batchAt}
-use Rattle.layout.specs.Marks.{statusAt}
+use Rattle.octets.specs.Sets.{rowsAt}
+use Rattle.octets.specs.Marks.{statusAt}
 use Rattle.layout.proofs.EachLaws.{each-length, each-is}
 use Rattle.deciding.specs.Sevens.{wordsAt, setsAt, statusesAt, batchesAt}
 

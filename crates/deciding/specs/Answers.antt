@@ -7,8 +7,8 @@ use Rattle.votes.specs.Answer.{Decided, decisionOf, refused}
 use Rattle.votes.specs.declared.answer.Decision.{Decision}
 use Rattle.votes.specs.declared.contents.Contents.{Contents}
 use Rattle.layout.specs.Numbers.{wordBytes, lay}
-use Rattle.layout.specs.Sets.{setBytes}
 use Rattle.layout.specs.Batches.{batchBytes}
+use Rattle.octets.specs.Sets.{setBytes}
 use Rattle.calls.specs.Calls.{short}
 use Rattle.deciding.specs.Codes.{codeOf, goesOn}
 

@@ -7,7 +7,7 @@ use lib.ListN.{drop}
 use Rattle.base.specs.declared.config.Config.{Config}
 use Rattle.votes.specs.Answer.{Decided}
 use Rattle.decisions.specs.Fast.{fastAnswer}
-use Rattle.layout.specs.Marks.{markOf, marksAt}
+use Rattle.octets.specs.Marks.{markOf, marksAt}
 use Rattle.calls.specs.Calls.{enough}
 use Rattle.deciding.specs.Slices.{marksKnown}
 use Rattle.deciding.specs.Sevens.{wordsAt, setsAt}

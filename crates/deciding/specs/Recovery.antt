@@ -6,11 +6,11 @@ use lib.ListN.{drop}
 use Rattle.base.specs.Below.{allBelow}
 use Rattle.base.specs.declared.config.Config.{Config}
 use Rattle.votes.specs.Answer.{Decided}
-use Rattle.decisions.specs.Recovery.{choiceAnswer}
-use Rattle.decisions.specs.declared.recovery.Prepare.{Prepare}
-use Rattle.decisions.specs.declared.recovery.Rule.{Rule}
-use Rattle.layout.specs.Marks.{marksAt}
-use Rattle.layout.specs.Known.{eachBelow}
+use Rattle.recovering.specs.Recovery.{choiceAnswer}
+use Rattle.recovering.specs.declared.recovery.Prepare.{Prepare}
+use Rattle.recovering.specs.declared.recovery.Rule.{Rule}
+use Rattle.octets.specs.Marks.{marksAt}
+use Rattle.octets.specs.Known.{eachBelow}
 use Rattle.calls.specs.Calls.{enough}
 use Rattle.deciding.specs.Slices.{marksKnown}
 use Rattle.deciding.specs.Sevens.{wordsAt, setsAt, statusesAt, batchesAt}

@@ -5,9 +5,9 @@ use Rattle.base.specs.declared.status.Status.{Status}
 use Rattle.deps.specs.declared.batches.Batch.{Batch}
 use Rattle.layout.specs.Numbers.{wordOf}
 use Rattle.layout.specs.Each.{eachAt}
-use Rattle.layout.specs.Sets.{rowsAt}
 use Rattle.layout.specs.Batches.{batchAt}
-use Rattle.layout.specs.Marks.{statusAt}
+use Rattle.octets.specs.Sets.{rowsAt}
+use Rattle.octets.specs.Marks.{statusAt}
 
 unfoldable pub wordsAt : List ℕ → List ℕ
 wordsAt l = eachAt wordOf 8 7 l

@@ -3,7 +3,7 @@ use mathlib.Core.List.{List}
 use mathlib.Core.Bool.{Bool}
 use Prim.Native.Nat.{ℕ}
 use Rattle.base.specs.declared.config.Config.{Config}
-use Rattle.layout.specs.Known.{eachBelow}
+use Rattle.octets.specs.Known.{eachBelow}
 
 -- each of seven marks is 0 or 1
 abbrev pub marksKnown : List ℕ → Bool

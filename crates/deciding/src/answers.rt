@@ -11,7 +11,7 @@ use super::codes;
 use base::refusals;
 use layout::batches::put_batch;
 use layout::numbers::put_word;
-use layout::sets::put_set;
+use octets::sets::put_set;
 use votes::answer::Decision;
 use votes::answer::Step;
 use votes::contents::Contents;

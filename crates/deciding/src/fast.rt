@@ -12,7 +12,7 @@ use super::slices::marks_known;
 use base::config::Config;
 use calls::calls::SHORT;
 use decisions::fast;
-use layout::marks::marks_at;
+use octets::marks::marks_at;
 use votes::answer::Decision;
 
 // On slices of any length.

@@ -14,11 +14,11 @@ use super::slices::marks_known;
 use super::slices::size;
 use base::config::Config;
 use calls::calls::SHORT;
-use decisions::recovery;
-use decisions::recovery::Prepare;
-use decisions::recovery::Rule;
-use layout::known::each_below;
-use layout::marks::marks_at;
+use octets::known::each_below;
+use octets::marks::marks_at;
+use recovering::recovery;
+use recovering::recovery::Prepare;
+use recovering::recovery::Rule;
 use votes::answer::Decision;
 
 pub fn prepare(row: u64, highest: u64, default: u64) -> Prepare

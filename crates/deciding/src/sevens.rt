@@ -6,9 +6,9 @@ ghost use Rattle.deciding.specs.Sevens.{wordsAt, setsAt, statusesAt, bat
 use base::status::Status;
 use deps::batches::Batch;
 use layout::batches::batch_at;
-use layout::marks::status_of;
 use layout::numbers::word;
-use layout::sets::set_at;
+use octets::marks::status_of;
+use octets::sets::set_at;
 
 pub(crate) fn words_at(s: &[u8], at: usize) -> [u64; 7]
     requires { ⌜ at + 56 ≤ length (now s) ⌝ }

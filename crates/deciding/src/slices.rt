@@ -4,7 +4,7 @@ ghost use Prim.Native.Nat.{_≤_};
 ghost use lib.ListN.{length};
 ghost use Rattle.deciding.specs.Slices.{marksKnown, configOf};
 use base::config::Config;
-use layout::known::each_below;
+use octets::known::each_below;
 
 // A size has 64 bits, so every number is one.
 pub fn size(number: u64) -> usize

@@ -15,8 +15,8 @@ use Rattle.base.proofs.MarkLaws.{marks-fit-each, two-counts}
 use Rattle.votes.specs.Contents.{none, saidBy, joinOf}
 use Rattle.votes.specs.Answer.{Decided, wait, committed, accepting, refused}
 use Rattle.votes.specs.Holder.{lowestBelow, orElse}
-use Rattle.votes.specs.Refusal.{bothFit, refusalOf}
 use Rattle.votes.specs.Identical.{occurrences, hasEnough, firstEnough}
+use Rattle.refusing.specs.Refusal.{bothFit, refusalOf}
 use Rattle.decisions.specs.Fast.{joinedBelow, joined, goneAt, goneCount, possible, fastDecision, repliesOf, fastAnswer}
 use Rattle.votes.specs.declared.contents.Contents.{Contents}
 use Rattle.votes.specs.declared.holder.Holder.{Holder}

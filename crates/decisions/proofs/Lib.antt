@@ -1,2 +1,1 @@
 pub mod FastLaws
-pub mod RecoveryLaws

@@ -11,9 +11,9 @@ use Rattle.base.specs.declared.config.Config.{Config}
 use Rattle.votes.specs.Contents.{none, saidBy, joinOf, entriesOf}
 use Rattle.votes.specs.Answer.{Decided, wait, committed, accepting, unlessRefused}
 use Rattle.votes.specs.Holder.{orElse}
-use Rattle.votes.specs.Refusal.{bothFit, refusalOf}
 use Rattle.votes.specs.Identical.{firstEnough, mostEquals}
 use Rattle.votes.specs.declared.contents.Contents.{Contents}
+use Rattle.refusing.specs.Refusal.{bothFit, refusalOf}
 
 -- the union of the dependencies and the greatest sequence of those listed among 0, 1, .., n - 1
 unfoldable pub joinedBelow : ℕ → List Bool → List Contents → Contents

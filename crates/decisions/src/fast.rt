@@ -8,12 +8,12 @@ ghost use Rattle.decisions.specs.Fast.{isGone, goneCount, joined, fastDe
 use base::config::Config;
 use base::marks;
 use deps::batches::Batch;
+use refusing::refusal;
 use votes::answer::Decision;
 use votes::answer::Step;
 use votes::contents;
 use votes::contents::Contents;
 use votes::identical;
-use votes::refusal;
 
 // Replies by replica: whether there is one, its sequence, its dependency columns. Silent replicas by their marks.
 pub fn decision(

@@ -1,3 +1,2 @@
-// What a leader does next: the fast decision on replies, and the recovery choice on votes, the Rust's and the paper's.
+// What a leader does next with the replies to a PreAccept.
 pub mod fast; // fast.rt: the fast decision
-pub mod recovery; // recovery.rt: both recovery choices

@@ -14,19 +14,19 @@ use Rattle.table.specs.Table.{holds, slotOf, putAt, nullsTo}
 use Rattle.table.specs.declared.place.Place.{Place}
 use Rattle.slots.specs.declared.slot.Slot.{Slot}
 use Rattle.table.specs.declared.table.Table.{Table}
-use Rattle.handlers.specs.Output.{logOf, noticeOf}
-use Rattle.handlers.specs.Outcome.{Handled, refused, ignored, done, unlessRefused}
-use Rattle.handlers.specs.Refusal.{messageRefusal, proposalRefusal, leadRefusal}
-use Rattle.handlers.specs.Proposals.{valuesOf, storedFor, logged, proposed}
+use Rattle.outcomes.specs.Output.{logOf, noticeOf}
+use Rattle.outcomes.specs.Outcome.{Handled, refused, ignored, done, unlessRefused}
+use Rattle.outcomes.specs.Refusal.{messageRefusal, proposalRefusal, leadRefusal}
+use Rattle.outcomes.specs.declared.message.Message.{Message}
+use Rattle.outcomes.specs.declared.message.Proposal.{Proposal}
+use Rattle.outcomes.specs.declared.output.Record.{Record}
+use Rattle.proposing.specs.Proposals.{valuesOf, storedFor, logged, proposed}
+use Rattle.proposing.specs.declared.proposals.Phase.{Phase}
+use Rattle.proposing.specs.declared.proposals.Values.{Values}
 use Rattle.handlers.specs.Replies.{heeds, onMark, acceptReply}
 use Rattle.handlers.specs.Prepare.{replied, expPrepare}
 use Rattle.handlers.specs.Lead.{leadSlot}
-use Rattle.handlers.specs.declared.message.Message.{Message}
-use Rattle.handlers.specs.declared.message.Proposal.{Proposal}
-use Rattle.handlers.specs.declared.output.Record.{Record}
-use Rattle.handlers.specs.declared.proposals.Phase.{Phase}
-use Rattle.handlers.specs.declared.proposals.Values.{Values}
-use Rattle.handlers.proofs.RefusalLaws.{Heard, Taken, Led, message-heard, proposal-taken, lead-led}
+use Rattle.outcomes.proofs.RefusalLaws.{Heard, Taken, Led, message-heard, proposal-taken, lead-led}
 
 -- ---- a statement for each of the three
 

@@ -1,5 +1,3 @@
-pub mod OutcomeLaws
-pub mod RefusalLaws
 pub mod TestLaws
 pub mod CaseLaws
 pub mod RefusedLaws

@@ -9,27 +9,27 @@ use borrow.Author.Tests.{lt-ltb, le-ltb, le-leb, lt-leb, ltb-true, ltb-false, le
 use lib.Dec.{ltb}
 use Rattle.base.specs.Refusals.{firstRefusal, outsideBounds, noReplica, noColumn, badDependency, badBatch, overLimit, noSlot, sequenceLimit}
 use Rattle.base.specs.declared.answer.Answer.the-variants.{Refused}
-use Rattle.base.proofs.RefusalLaws.{passed-first}
+use Rattle.base.proofs.RefusalLaws.{passed-first, at-first}
 use Rattle.deps.specs.Sets.{setFits}
 use Rattle.deps.specs.Batches.{batchFits}
 use Rattle.table.specs.Table.{holds}
 use Rattle.table.specs.Bounds.{tableFits}
 use Rattle.table.specs.declared.place.Place.{Place}
 use Rattle.table.specs.declared.table.Table.{Table}
-use Rattle.handlers.specs.Output.{outputOf}
-use Rattle.handlers.specs.Outcome.{Handled, refused, ignored, done, outcomeOf, unlessRefused}
-use Rattle.handlers.specs.Refusal.{messageTests, contentsTests, leadTests, messageRefusal, proposalRefusal, leadRefusal}
-use Rattle.handlers.specs.Proposals.{proposed}
+use Rattle.outcomes.specs.Output.{outputOf}
+use Rattle.outcomes.specs.Outcome.{Handled, refused, ignored, done, outcomeOf, unlessRefused}
+use Rattle.outcomes.specs.Refusal.{messageTests, contentsTests, leadTests, messageRefusal, proposalRefusal, leadRefusal}
+use Rattle.outcomes.specs.declared.message.Message.{Message}
+use Rattle.outcomes.specs.declared.message.Proposal.{Proposal}
+use Rattle.proposing.specs.Proposals.{proposed}
+use Rattle.proposing.specs.declared.proposals.Phase.{Phase}
+use Rattle.proposing.specs.declared.proposals.Phase.the-variants.{PreAccept, Accept, CommitNotice}
 use Rattle.handlers.specs.Replies.{acceptReply}
 use Rattle.handlers.specs.Prepare.{expPrepare}
 use Rattle.handlers.specs.Lead.{leadSlot}
-use Rattle.handlers.specs.declared.message.Message.{Message}
-use Rattle.handlers.specs.declared.message.Proposal.{Proposal}
-use Rattle.handlers.specs.declared.proposals.Phase.{Phase}
-use Rattle.handlers.specs.declared.proposals.Phase.the-variants.{PreAccept, Accept, CommitNotice}
-use Rattle.handlers.proofs.OutcomeLaws.{when-refused, when-not}
-use Rattle.handlers.proofs.RefusalLaws.{Placed, Heard, Taken, message-heard, head-refused, head-passed}
-use Rattle.handlers.proofs.TestLaws.{sequence-over}
+use Rattle.outcomes.proofs.OutcomeLaws.{when-refused, when-not}
+use Rattle.outcomes.proofs.RefusalLaws.{Placed, Heard, Taken, message-heard, head-refused, head-passed}
+use Rattle.proposing.proofs.TestLaws.{sequence-over}
 use Rattle.handlers.proofs.CaseLaws.{WhenRefused, filled, slotBefore, toStore, proposed-cases, reply-cases, mark-cases, prepare-cases, lead-cases}
 
 -- ---- what a refused call leaves, and what an ignored one puts out
@@ -76,18 +76,7 @@ pub data LeadRefused (t : Table) (at : Place) : ℕ → Type 0 where
   no-column : tableFits t ≡ true → at .row < t .config .n → 32 ≤ at .col → LeadRefused t at noColumn
   no-slot : Placed t at → holds t at ≡ false → LeadRefused t at noSlot
 
--- ---- the first test that fails gives its number: once over any list of tests
-
--- said of each test's number, where it fails and those before it pass
-abbrev ForFirst : (ℕ → Type 0) → List (Bool × ℕ) → Type 0
-ForFirst P [] = Unit
-ForFirst P ((ok, number) ∷ rest) = (ok ≡ false → P number) × (ok ≡ true → ForFirst P rest)
-
-at-first : (P : ℕ → Type 0) (l : List (Bool × ℕ)) → ForFirst P l → 0 < firstRefusal l → P (firstRefusal l)
-unfolding firstRefusal
-at-first P [] h l = absurd (omega arith)
-at-first P ((true, number) ∷ rest) h l = at-first P rest (h .1 refl) l
-at-first P ((false, number) ∷ rest) h l = h .0 refl
+-- ---- a refusal that is not 0
 
 refused-as : {n k : ℕ} (h : Handled) → (n ≡ k) × (0 < k) → unlessRefused n h ≡ refused k
 refused-as {n} h e = when-refused n h (omega arith) ∙ ap refused (e .0)

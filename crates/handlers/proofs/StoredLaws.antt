@@ -26,22 +26,23 @@ use Rattle.slots.specs.declared.slot.Slot.{Slot}
 use Rattle.table.specs.declared.table.Table.{Table}
 use Rattle.table.proofs.SlotReads.{nulls-hold, put-there, put-elsewhere, stored-there, stored-elsewhere, stored-config, stored-lens, stored-bars, stored-keys, nulls-config, nulls-bars, nulls-keys, nulls-length, nulls-kept}
 use Rattle.table.proofs.HighestLaws.{highest-at}
-use Rattle.handlers.specs.Output.{logOf, noticeOf, replyOf}
-use Rattle.handlers.specs.Outcome.{Handled, ignored, done}
-use Rattle.handlers.specs.Refusal.{messageRefusal, proposalRefusal}
-use Rattle.handlers.specs.Proposals.{storedFor, raisedBy, proposed}
+use Rattle.outcomes.specs.Output.{logOf, noticeOf, replyOf}
+use Rattle.outcomes.specs.Outcome.{Handled, ignored, done}
+use Rattle.outcomes.specs.Refusal.{messageRefusal, proposalRefusal}
+use Rattle.outcomes.specs.declared.message.Message.{Message}
+use Rattle.outcomes.specs.declared.message.Proposal.{Proposal}
+use Rattle.outcomes.specs.declared.output.Record.{Record}
+use Rattle.proposing.specs.Proposals.{storedFor, raisedBy, proposed}
+use Rattle.proposing.specs.declared.proposals.Phase.{Phase}
+use Rattle.proposing.specs.declared.proposals.Phase.the-variants.{PreAccept, Accept, CommitNotice}
+use Rattle.proposing.specs.declared.proposals.Values.{Values}
 use Rattle.handlers.specs.Replies.{heeds, acceptReply}
 use Rattle.handlers.specs.Prepare.{expPrepare}
 use Rattle.handlers.specs.Lead.{leadSlot}
-use Rattle.handlers.specs.declared.message.Message.{Message}
-use Rattle.handlers.specs.declared.message.Proposal.{Proposal}
-use Rattle.handlers.specs.declared.output.Record.{Record}
-use Rattle.handlers.specs.declared.proposals.Phase.{Phase}
-use Rattle.handlers.specs.declared.proposals.Phase.the-variants.{PreAccept, Accept, CommitNotice}
-use Rattle.handlers.specs.declared.proposals.Values.{Values}
-use Rattle.handlers.proofs.OutcomeLaws.{when-not}
-use Rattle.handlers.proofs.RefusalLaws.{Heard, Taken, Led, placed-row}
-use Rattle.handlers.proofs.TestLaws.{ballot-below, not-greater}
+use Rattle.outcomes.proofs.OutcomeLaws.{when-not}
+use Rattle.outcomes.proofs.RefusalLaws.{Heard, Taken, Led, placed-row}
+use Rattle.proposing.proofs.TestLaws.{ballot-below}
+use Rattle.handlers.proofs.TestLaws.{not-greater}
 use Rattle.handlers.proofs.CaseLaws.{WhenIgnored, WhenDone, filled, slotBefore, toStore, slotAfter, slotMarked, proposed-cases, reply-cases, mark-cases, prepare-cases, lead-cases}
 
 -- ---- PreAccept, Accept and CommitNotice

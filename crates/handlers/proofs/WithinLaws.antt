@@ -16,16 +16,16 @@ use Rattle.table.specs.declared.table.Table.{Table}
 use Rattle.table.proofs.SlotReads.{nulls-config, nulls-keys, nulls-holds}
 use Rattle.table.proofs.BoundLaws.{table-fits-each, held-slot-fits, put-keeps, stored-keeps, nulls-keep}
 use Rattle.slots.proofs.SlotLaws.{stored-slot-fits, heard-fits, led-fits, marked-fits, committed-fits}
-use Rattle.handlers.specs.Outcome.{Handled, refused, ignored, done, outcomeOf}
-use Rattle.handlers.specs.Proposals.{raisedBy, proposed}
+use Rattle.outcomes.specs.Outcome.{Handled, refused, ignored, done, outcomeOf}
+use Rattle.outcomes.specs.declared.message.Message.{Message}
+use Rattle.outcomes.specs.declared.message.Proposal.{Proposal}
+use Rattle.proposing.specs.Proposals.{raisedBy, proposed}
+use Rattle.proposing.specs.declared.proposals.Phase.{Phase}
+use Rattle.proposing.specs.declared.proposals.Phase.the-variants.{PreAccept, Accept, CommitNotice}
 use Rattle.handlers.specs.Replies.{acceptReply}
 use Rattle.handlers.specs.Prepare.{expPrepare}
 use Rattle.handlers.specs.Lead.{leadSlot}
-use Rattle.handlers.specs.declared.message.Message.{Message}
-use Rattle.handlers.specs.declared.message.Proposal.{Proposal}
-use Rattle.handlers.specs.declared.proposals.Phase.{Phase}
-use Rattle.handlers.specs.declared.proposals.Phase.the-variants.{PreAccept, Accept, CommitNotice}
-use Rattle.handlers.proofs.RefusalLaws.{Heard, Taken, placed-row}
+use Rattle.outcomes.proofs.RefusalLaws.{Heard, Taken, placed-row}
 use Rattle.handlers.proofs.CaseLaws.{Each, filled, slotBefore, toStore, slotAfter, slotMarked, proposed-cases, reply-cases, mark-cases, prepare-cases, lead-cases}
 
 -- the table of a call that is ignored or done is within the bounds

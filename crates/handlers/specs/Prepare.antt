@@ -5,10 +5,10 @@ use lib.Dec.{ltb}
 use Rattle.slots.specs.Slot.{heardFrom}
 use Rattle.table.specs.Table.{slotOf, nullsTo, putAt}
 use Rattle.table.specs.declared.table.Table.{Table}
-use Rattle.handlers.specs.Output.{replyOf}
-use Rattle.handlers.specs.Outcome.{Handled, ignored, done, unlessRefused}
-use Rattle.handlers.specs.Refusal.{messageRefusal}
-use Rattle.handlers.specs.declared.message.Message.{Message}
+use Rattle.outcomes.specs.Output.{replyOf}
+use Rattle.outcomes.specs.Outcome.{Handled, ignored, done, unlessRefused}
+use Rattle.outcomes.specs.Refusal.{messageRefusal}
+use Rattle.outcomes.specs.declared.message.Message.{Message}
 
 -- the source is the peer, which gets the slot's values; the ballot stays
 abbrev pub replied : Table → Message → Handled

@@ -10,10 +10,10 @@ use Rattle.table.specs.Table.{holds, slotOf, putAt}
 use Rattle.table.specs.declared.place.Place.{Place}
 use Rattle.slots.specs.declared.slot.Slot.{Slot}
 use Rattle.table.specs.declared.table.Table.{Table}
-use Rattle.handlers.specs.Output.{logOf, noticeOf}
-use Rattle.handlers.specs.Outcome.{Handled, ignored, done, unlessRefused}
-use Rattle.handlers.specs.Refusal.{messageRefusal}
-use Rattle.handlers.specs.declared.message.Message.{Message}
+use Rattle.outcomes.specs.Output.{logOf, noticeOf}
+use Rattle.outcomes.specs.Outcome.{Handled, ignored, done, unlessRefused}
+use Rattle.outcomes.specs.Refusal.{messageRefusal}
+use Rattle.outcomes.specs.declared.message.Message.{Message}
 
 -- Accepting, of this ballot, led, and the peer not yet marked
 unfoldable pub heeds : Slot → Message → Bool

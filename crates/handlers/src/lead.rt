@@ -1,10 +1,10 @@
 // Lead: this copy leads the slot.
 ghost use mathlib.Core.Path.{_≡_};
-ghost use Rattle.handlers.specs.Outcome.{outcomeOf};
+ghost use Rattle.outcomes.specs.Outcome.{outcomeOf};
 ghost use Rattle.handlers.specs.Lead.{leadSlot};
-use super::outcome::Outcome;
-use super::output::Output;
-use super::refusal;
+use outcomes::outcome::Outcome;
+use outcomes::output::Output;
+use outcomes::refusal;
 use table::place::Place;
 use table::table::Table;
 

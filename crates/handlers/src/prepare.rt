@@ -1,13 +1,13 @@
 // ExpPrepare.
 ghost use mathlib.Core.Path.{_≡_};
-ghost use Rattle.handlers.specs.Outcome.{outcomeOf};
+ghost use Rattle.outcomes.specs.Outcome.{outcomeOf};
 ghost use Rattle.handlers.specs.Prepare.{expPrepare};
-use super::message::Message;
-use super::outcome::Outcome;
-use super::output::Output;
-use super::output::Record;
-use super::output::What;
-use super::refusal;
+use outcomes::message::Message;
+use outcomes::outcome::Outcome;
+use outcomes::output::Output;
+use outcomes::output::Record;
+use outcomes::output::What;
+use outcomes::refusal;
 use table::table::Table;
 
 pub fn exp_prepare(table: Table, message: Message) -> Outcome

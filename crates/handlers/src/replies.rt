@@ -1,16 +1,16 @@
 // AcceptReply.
 ghost use mathlib.Core.Path.{_≡_};
 ghost use Prim.Native.Nat.{_<_};
-ghost use Rattle.handlers.specs.Outcome.{outcomeOf};
+ghost use Rattle.outcomes.specs.Outcome.{outcomeOf};
 ghost use Rattle.handlers.specs.Replies.{acceptReply, heeds, onMark};
-use super::message::Message;
-use super::outcome::Outcome;
-use super::output::Output;
-use super::output::Record;
-use super::output::What;
-use super::refusal;
 use base::marks;
 use base::status::Status;
+use outcomes::message::Message;
+use outcomes::outcome::Outcome;
+use outcomes::output::Output;
+use outcomes::output::Record;
+use outcomes::output::What;
+use outcomes::refusal;
 use slots::slot::Slot;
 use table::place::Place;
 use table::table::Table;

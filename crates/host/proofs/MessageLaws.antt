@@ -8,8 +8,8 @@ use lib.ListN.{drop}
 use Rattle.base.specs.Config.{configFits}
 use Rattle.table.specs.Table.{emptyTable}
 use Rattle.table.specs.Open.{configOf, openOf}
-use Rattle.handlers.specs.declared.message.Message.{Message}
-use Rattle.layout.proofs.BatchLaws.{rows-length}
+use Rattle.outcomes.specs.declared.message.Message.{Message}
+use Rattle.octets.proofs.SetLaws.{rows-length}
 use Rattle.image.specs.Tables.{tableAt, imageKnown}
 use Rattle.image.proofs.TableLaws.{table-back, table-known}
 use Rattle.image.proofs.ReadLaws.{Bytes, bytes-past, batch-read}

@@ -9,12 +9,12 @@ use Rattle.deps.specs.Batches.{noOp}
 use Rattle.table.specs.Place.{placeOf}
 use Rattle.table.specs.Open.{openOf}
 use Rattle.table.specs.declared.table.Table.{Table}
-use Rattle.handlers.specs.Outcome.{Handled}
-use Rattle.handlers.specs.declared.message.Message.{Message}
-use Rattle.handlers.specs.declared.message.Proposal.{Proposal}
+use Rattle.outcomes.specs.Outcome.{Handled}
+use Rattle.outcomes.specs.declared.message.Message.{Message}
+use Rattle.outcomes.specs.declared.message.Proposal.{Proposal}
 use Rattle.layout.specs.Numbers.{wordOf}
-use Rattle.layout.specs.Sets.{setAt}
 use Rattle.layout.specs.Batches.{batchAt}
+use Rattle.octets.specs.Sets.{setAt}
 use Rattle.image.specs.Contents.{contentsWidth, kindsKnown}
 use Rattle.calls.specs.Calls.{short, enough, Called, unchanged, imageLong, imageWith, onImage}
 

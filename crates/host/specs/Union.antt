@@ -4,7 +4,7 @@ use mathlib.Core.Bool.{Bool, cond, _&&_}
 use Prim.Native.Nat.{ℕ}
 use Rattle.deps.specs.Sets.{unionOf}
 use Rattle.layout.specs.Numbers.{lay}
-use Rattle.layout.specs.Sets.{setAt, setBytes}
+use Rattle.octets.specs.Sets.{setAt, setBytes}
 use Rattle.calls.specs.Calls.{short, enough}
 use Rattle.deciding.specs.Codes.{done}
 

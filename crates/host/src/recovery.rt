@@ -1,12 +1,12 @@
 // The recovery choice on the votes that a prepare has gathered, by the Rust's counts and by the paper's.
 ghost use mathlib.Core.Path.{_≡_};
-ghost use Rattle.decisions.specs.declared.recovery.Rule.the-variants.{Rust, Paper};
+ghost use Rattle.recovering.specs.declared.recovery.Rule.the-variants.{Rust, Paper};
 ghost use Rattle.deciding.specs.Slices.{configOf};
 ghost use Rattle.deciding.specs.Recovery.{prepareOf, choiceCode, choiceBytes};
 use deciding::recovery::answer;
 use deciding::recovery::prepare;
 use deciding::slices::config;
-use decisions::recovery::Rule;
+use recovering::recovery::Rule;
 
 // n, own, simple, sup: the configuration. row: the slot's row; highest: the highest ballot that was voted at;
 // default: the row's default ballot.

@@ -3,8 +3,8 @@ ghost use mathlib.Core.Path.{_≡_};
 ghost use Rattle.host.specs.Union.{unionCode, unionBytes};
 use calls::calls::SHORT;
 use deciding::codes;
-use layout::sets::put_set;
-use layout::sets::set_at;
+use octets::sets::put_set;
+use octets::sets::set_at;
 
 // a, b: a dependency set each, 7 bytes, per row 0 for nothing or a column and one.
 // out: 7 bytes, the union.

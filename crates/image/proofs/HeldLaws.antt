@@ -18,8 +18,8 @@ use Rattle.table.specs.declared.table.Table.{Table}
 use Rattle.table.proofs.BoundLaws.{table-fits-each, len-at-most}
 use Rattle.layout.specs.Numbers.{wordBytes}
 use Rattle.layout.specs.Each.{eachBytes}
-use Rattle.layout.specs.Sets.{setBytes}
 use Rattle.layout.specs.Batches.{requestIn, batchBytes, RequestFits}
+use Rattle.octets.specs.Sets.{setBytes}
 use Rattle.image.specs.Contents.{contentsBytes}
 use Rattle.image.specs.Slot.{slotKnown, marksBytes, headBytes, slotBytes, SlotWhole}
 use Rattle.image.specs.Tables.{tableAt, imageKnown, tableBytes, ConfigWhole, RowsWhole, KeysWhole}

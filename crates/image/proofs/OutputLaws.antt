@@ -3,9 +3,9 @@ use mathlib.Core.Path.{_≡_, refl}
 use lib.ListN.{length, length-append}
 use Rattle.base.specs.declared.status.Status.{Status}
 use Rattle.table.specs.declared.place.Place.{Place}
-use Rattle.handlers.specs.declared.output.What.{What}
-use Rattle.handlers.specs.declared.output.Record.{Record}
-use Rattle.handlers.specs.declared.output.Output.{Output}
+use Rattle.outcomes.specs.declared.output.What.{What}
+use Rattle.outcomes.specs.declared.output.Record.{Record}
+use Rattle.outcomes.specs.declared.output.Output.{Output}
 use Rattle.layout.proofs.NumberLaws.{number-length}
 use Rattle.image.specs.Output.{outputWidth, tagBytes, recordBytes, outputBytes}
 use Rattle.image.proofs.SlotLaws.{contents-length}

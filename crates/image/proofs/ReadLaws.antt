@@ -11,11 +11,12 @@ use Rattle.deps.specs.Batches.{noRequest}
 use Rattle.deps.specs.declared.batches.Kind.the-variants.{Other, Put, Get}
 use Rattle.slots.specs.Slot.{blankSlot}
 use Rattle.layout.specs.Numbers.{numberOf, byteOf}
-use Rattle.layout.specs.Sets.{rowsAt}
 use Rattle.layout.specs.Batches.{kindOf, keyOf, valueOf, requestAt, batchAt, RequestFits, BatchFits}
+use Rattle.octets.specs.Sets.{rowsAt}
 use Rattle.layout.proofs.EachLaws.{each-length, each-is}
-use Rattle.layout.proofs.BatchLaws.{rows-length, reqs-length}
-use Rattle.layout.proofs.MarkLaws.{marks-length}
+use Rattle.layout.proofs.BatchLaws.{reqs-length}
+use Rattle.octets.proofs.SetLaws.{rows-length}
+use Rattle.octets.proofs.MarkLaws.{marks-length}
 use Rattle.image.specs.Slot.{slotAt, SlotWhole}
 use Rattle.image.specs.Tables.{keysAt, slotsAt, tableAt, RowsWhole, KeysWhole, TableWhole}
 

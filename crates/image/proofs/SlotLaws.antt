@@ -18,14 +18,15 @@ use Rattle.deps.specs.declared.batches.Batch.{Batch}
 use Rattle.slots.specs.declared.slot.Slot.{Slot}
 use Rattle.layout.specs.Numbers.{wordOf, wordBytes, numberBytes}
 use Rattle.layout.specs.Each.{eachBytes}
-use Rattle.layout.specs.Sets.{setAt, setBytes}
 use Rattle.layout.specs.Batches.{kindByte, requestBytes, batchAt, batchBytes}
-use Rattle.layout.specs.Marks.{markOf, statusOf, markAt, marksAt}
-use Rattle.layout.specs.Known.{eachBelow}
+use Rattle.octets.specs.Sets.{setAt, setBytes}
+use Rattle.octets.specs.Marks.{markOf, statusOf, markAt, marksAt}
+use Rattle.octets.specs.Known.{eachBelow}
 use Rattle.layout.proofs.NumberLaws.{number-length, word-back}
 use Rattle.layout.proofs.EachLaws.{bytes-length, each-back}
-use Rattle.layout.proofs.BatchLaws.{set-length, set-back, kind-below, batch-length, batch-back}
-use Rattle.layout.proofs.MarkLaws.{status-back, rank-below}
+use Rattle.layout.proofs.BatchLaws.{kind-below, batch-length, batch-back}
+use Rattle.octets.proofs.SetLaws.{set-length, set-back}
+use Rattle.octets.proofs.MarkLaws.{status-back, rank-below}
 use Rattle.image.specs.Contents.{contentsBytes, kindsKnown}
 use Rattle.image.specs.Slot.{narrowed, slotAt, slotKnown, markByte, markIn, marksBytes, headBytes, slotBytes, SlotWhole}
 

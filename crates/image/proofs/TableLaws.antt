@@ -16,9 +16,9 @@ use Rattle.slots.specs.declared.slot.Slot.{Slot}
 use Rattle.table.specs.Table.{tableOf, slotNo}
 use Rattle.table.specs.declared.table.Table.{Table}
 use Rattle.layout.specs.Numbers.{byteOf}
-use Rattle.layout.specs.Sets.{rowsAt}
+use Rattle.octets.specs.Sets.{rowsAt}
 use Rattle.layout.proofs.EachLaws.{bytes-length, each-back, each-is, one-back}
-use Rattle.layout.proofs.BatchLaws.{set-length, set-back}
+use Rattle.octets.proofs.SetLaws.{set-length, set-back}
 use Rattle.image.specs.Slot.{slotAt, slotBytes, slotKnown, SlotWhole}
 use Rattle.image.specs.Tables.{imageWidth, configAt, keysAt, slotsAt, tableAt, knownAt, imageKnown, configBytes, rowIn, rowsBytes, columnsIn, keysBytes, slotIn, slotsBytes, tableBytes, ConfigWhole, RowsWhole, KeysWhole, TableWhole}
 use Rattle.image.proofs.SlotLaws.{slot-length, slot-back, slot-bytes-known}

@@ -6,9 +6,9 @@ use lib.ListN.{drop}
 use Rattle.deps.specs.declared.sets.DepSet.{DepSet}
 use Rattle.deps.specs.declared.batches.Batch.{Batch}
 use Rattle.layout.specs.Numbers.{wordBytes}
-use Rattle.layout.specs.Sets.{setBytes}
 use Rattle.layout.specs.Batches.{batchBytes}
-use Rattle.layout.specs.Known.{eachBelow}
+use Rattle.octets.specs.Sets.{setBytes}
+use Rattle.octets.specs.Known.{eachBelow}
 
 abbrev pub contentsWidth : ℕ
 contentsWidth = 124

@@ -7,11 +7,11 @@ use Rattle.base.specs.declared.status.Status.{Status}
 use Rattle.table.specs.declared.place.Place.{Place}
 use Rattle.table.specs.Place.{placeOf}
 use Rattle.slots.specs.Slot.{blankSlot}
-use Rattle.handlers.specs.Output.{recordOf}
-use Rattle.handlers.specs.declared.output.What.{What}
-use Rattle.handlers.specs.declared.output.What.the-variants.{Nothing, Log, CommitNotice, PreAcceptReply, AcceptReply, ExpPrepareReply, NoteToSelf}
-use Rattle.handlers.specs.declared.output.Record.{Record}
-use Rattle.handlers.specs.declared.output.Output.{Output}
+use Rattle.outcomes.specs.Output.{recordOf}
+use Rattle.outcomes.specs.declared.output.What.{What}
+use Rattle.outcomes.specs.declared.output.What.the-variants.{Nothing, Log, CommitNotice, PreAcceptReply, AcceptReply, ExpPrepareReply, NoteToSelf}
+use Rattle.outcomes.specs.declared.output.Record.{Record}
+use Rattle.outcomes.specs.declared.output.Output.{Output}
 use Rattle.layout.specs.Numbers.{wordBytes}
 use Rattle.image.specs.Contents.{contentsBytes}
 use Rattle.image.specs.Tables.{byteFor}

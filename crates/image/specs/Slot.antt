@@ -11,10 +11,10 @@ use Rattle.base.specs.declared.status.Status.{Status}
 use Rattle.slots.specs.declared.slot.Slot.{Slot}
 use Rattle.layout.specs.Numbers.{wordOf, wordBytes}
 use Rattle.layout.specs.Each.{eachBytes}
-use Rattle.layout.specs.Sets.{setAt}
 use Rattle.layout.specs.Batches.{batchAt, BatchFits}
-use Rattle.layout.specs.Marks.{markOf, statusOf, marksAt}
-use Rattle.layout.specs.Known.{eachBelow}
+use Rattle.octets.specs.Sets.{setAt}
+use Rattle.octets.specs.Marks.{markOf, statusOf, marksAt}
+use Rattle.octets.specs.Known.{eachBelow}
 use Rattle.image.specs.Contents.{contentsBytes, kindsKnown}
 
 -- ---- reading

@@ -14,7 +14,7 @@ use Rattle.table.specs.Table.{tableOf, slotNo}
 use Rattle.table.specs.Open.{configOf}
 use Rattle.table.specs.declared.table.Table.{Table}
 use Rattle.layout.specs.Each.{eachAt, eachBytes}
-use Rattle.layout.specs.Sets.{rowsAt, setBytes}
+use Rattle.octets.specs.Sets.{rowsAt, setBytes}
 use Rattle.image.specs.Slot.{slotAt, slotBytes, slotKnown, SlotWhole}
 
 abbrev pub imageWidth : ℕ

@@ -7,9 +7,9 @@ ghost use Rattle.image.specs.Contents.{contentsBytes, kindsKnown};
 use deps::batches::Batch;
 use deps::sets::DepSet;
 use layout::batches::put_batch;
-use layout::known::each_below;
 use layout::numbers::put_word;
-use layout::sets::put_set;
+use octets::known::each_below;
+use octets::sets::put_set;
 
 pub(crate) fn put_contents(out: &mut [u8], at: usize, seq: u64, deps: DepSet, batch: Batch)
     requires { ⌜ at + 124 ≤ length (now out) ⌝ }

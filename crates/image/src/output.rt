@@ -6,12 +6,12 @@ ghost use Rattle.layout.specs.Numbers.{lay};
 ghost use Rattle.image.specs.Output.{outputWidth, whatByte, peerOf, askedOf, tagBytes, recordBytes, outputBytes};
 use super::contents::put_contents;
 use base::status::Status;
-use handlers::output::Output;
-use handlers::output::Record;
-use handlers::output::What;
 use layout::numbers::byte;
 use layout::numbers::put_byte;
 use layout::numbers::put_word;
+use outcomes::output::Output;
+use outcomes::output::Record;
+use outcomes::output::What;
 use table::place::Place;
 
 // How many bytes an output takes.

@@ -3,7 +3,7 @@ ghost use mathlib.Core.Path.{_≡_};
 ghost use Prim.Native.Nat.{_+_, _≤_};
 ghost use lib.ListN.{length, drop};
 ghost use Rattle.layout.specs.Numbers.{lay};
-ghost use Rattle.layout.specs.Sets.{rowsAt};
+ghost use Rattle.octets.specs.Sets.{rowsAt};
 ghost use Rattle.image.specs.Tables.{configAt, keysAt, configBytes, rowsBytes, keysBytes};
 use base::config::Config;
 use deps::sets::DepSet;
@@ -11,8 +11,8 @@ use keys::columns::Keys;
 use layout::numbers::byte;
 use layout::numbers::put_byte;
 use layout::numbers::size;
-use layout::sets::put_set;
-use layout::sets::set_at;
+use octets::sets::put_set;
+use octets::sets::set_at;
 
 pub(crate) fn config_at(s: &[u8]) -> Config
     requires { ⌜ 4 ≤ length (now s) ⌝ }

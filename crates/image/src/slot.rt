@@ -9,14 +9,14 @@ use super::contents::put_contents;
 use base::refusals;
 use base::status::Status;
 use layout::batches::batch_at;
-use layout::known::each_below;
-use layout::marks::mark_of;
-use layout::marks::marks_at;
-use layout::marks::status_of;
 use layout::numbers::put_byte;
 use layout::numbers::put_word;
 use layout::numbers::word;
-use layout::sets::set_at;
+use octets::known::each_below;
+use octets::marks::mark_of;
+use octets::marks::marks_at;
+use octets::marks::status_of;
+use octets::sets::set_at;
 use slots::slot::Slot;
 
 // A sequence over the limit is read as the limit: who must refuse it tests it first.

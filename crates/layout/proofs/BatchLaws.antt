@@ -1,38 +1,20 @@
--- Sets and batches in bytes: how long they are, and that they read back.
-use mathlib.Core.Path.{_≡_, refl, ap}
+-- Requests and batches in bytes: how long they are, and that they read back.
+use mathlib.Core.Path.{_≡_, refl}
 use mathlib.Core.List.{List, _++_}
 use Prim.Native.Nat.{ℕ, _+_, _<_, min}
 use native.Mathlib.Omega.{arith}
 use lib.ListN.{length, getD, drop, length-append}
 use lib.Seq.{drop-drop, getD-drop}
-use Rattle.deps.specs.Sets.{setOf}
 use Rattle.deps.specs.Batches.{noRequest, request}
-use Rattle.deps.specs.declared.sets.DepSet.{DepSet}
 use Rattle.deps.specs.declared.batches.Kind.{Kind}
 use Rattle.deps.specs.declared.batches.Kind.the-variants.{Other, Put, Get}
 use Rattle.deps.specs.declared.batches.Request.{Request}
 use Rattle.deps.specs.declared.batches.Batch.{Batch}
-use Rattle.layout.specs.Numbers.{wordOf, shortOf, byteOf, numberBytes}
+use Rattle.layout.specs.Numbers.{wordOf, shortOf, numberBytes}
 use Rattle.layout.specs.Each.{eachAt, eachBytes}
-use Rattle.layout.specs.Sets.{rowsAt, setAt, rowByte, setBytes}
 use Rattle.layout.specs.Batches.{kindOf, kindByte, keyOf, valueOf, requestAt, requestBytes, requestIn, batchAt, batchBytes, RequestFits, BatchFits}
 use Rattle.layout.proofs.NumberLaws.{word-back, short-back, number-length}
 use Rattle.layout.proofs.EachLaws.{bytes-length, each-back, each-length}
-
--- ---- sets
-
-pub set-length : (d : DepSet) → length (setBytes d) ≡ 7
-unfolding setBytes
-set-length d = bytes-length (rowByte d) 1 (λ row. refl) 7
-
-pub set-back : (d : DepSet) (r : List ℕ) → length (d .cols) ≡ 7 → setAt (setBytes d ++ r) ≡ d
-unfolding rowsAt setBytes
-set-back d r g = ap setOf (each-back (rowByte d) 1 (λ row. refl) byteOf 7 (d .cols) 0 r g (λ row t p. refl))
-
--- what is read has seven rows
-pub rows-length : (l : List ℕ) → length (rowsAt l) ≡ 7
-unfolding rowsAt
-rows-length l = each-length byteOf 1 7 l
 
 -- ---- requests
 

@@ -1,11 +1,12 @@
 -- A slot, and what is done to one.
 use mathlib.Core.List.{List, []}
 use mathlib.Core.Bool.{Bool, true, false, _&&_}
-use lib.Dec.{leb}
+use lib.Dec.{leb, eqb}
 use Prim.Native.Nat.{ℕ, suc}
 use lib.ListN.{replicate, set}
 use Rattle.base.specs.declared.status.Status.{Status}
-use Rattle.base.specs.declared.status.Status.the-variants.{Null, Committed}
+use Rattle.base.specs.declared.status.Status.the-variants.{Null, Committed, Executed}
+use Rattle.base.specs.Status.{rankOf}
 use Rattle.base.specs.Marks.{marksFit}
 use Rattle.deps.specs.Sets.{setOf, emptySet, setFits}
 use Rattle.deps.specs.Batches.{noOp, batchFits}
@@ -83,6 +84,13 @@ withMark s peer = standing s (s .source) (s .led) (set (s .marks) peer true)
 
 abbrev pub committed : Slot → Slot
 committed s = storedWith s (s .ballot) Committed (s .seq) (s .deps) (s .batch)
+
+-- a slot has run when it is Executed
+abbrev pub isExecuted : Slot → Bool
+isExecuted s = eqb (rankOf (s .status)) (rankOf Executed)
+
+abbrev pub executed : Slot → Slot
+executed s = storedWith s (s .ballot) Executed (s .seq) (s .deps) (s .batch)
 
 -- source, dependencies, batch and marks within the bounds of n rows; else refusal 1
 unfoldable pub slotFits : ℕ → Slot → Bool

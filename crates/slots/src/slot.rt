@@ -1,7 +1,7 @@
 // A slot, by value.
 ghost use mathlib.Core.Path.{_≡_};
 ghost use Prim.Native.Nat.{_<_};
-ghost use Rattle.slots.specs.Slot.{storedWith, heardFrom, committed, leading, withMark, slotFits};
+ghost use Rattle.slots.specs.Slot.{storedWith, heardFrom, committed, leading, withMark, isExecuted, executed, slotFits};
 use base::marks;
 use base::status::Status;
 use deps::batches::Batch;
@@ -87,6 +87,22 @@ impl Slot {
         let deps = self.deps;
         let batch = self.batch;
         self.store(self.ballot, Status::Committed, self.seq, deps, batch)
+    }
+
+    pub fn has_run(self) -> bool
+        ensures { λ r. ⌜ r ≡ isExecuted self ⌝ }
+    {
+        let status = self.status;
+        status.rank() == 4
+    }
+
+    // Executed, as it stands.
+    pub fn run(self) -> Slot
+        ensures { λ r. ⌜ r ≡ executed self ⌝ }
+    {
+        let deps = self.deps;
+        let batch = self.batch;
+        self.store(self.ballot, Status::Executed, self.seq, deps, batch)
     }
 
     // Within the bounds of n rows.

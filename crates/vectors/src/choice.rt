@@ -14,9 +14,9 @@ use super::parts::read_mark;
 use super::parts::read_marks;
 use super::parts::read_set;
 use super::parts::read_word;
-use decisions::recovery::Rule;
 use host::recovery::nj_paper_choice;
 use host::recovery::nj_rust_choice;
+use recovering::recovery::Rule;
 
 // The row of the slot, the highest ballot that was voted at, and the row's default ballot.
 pub struct Prepare {

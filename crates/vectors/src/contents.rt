@@ -5,7 +5,7 @@ use super::parts::batch_at;
 use super::parts::set_at;
 use deps::batches::Batch;
 use deps::sets::DepSet;
-use handlers::output::Record;
+use outcomes::output::Record;
 use slots::slot::Slot;
 
 // The status by its rank.

@@ -7,13 +7,13 @@ use super::parts::set_at;
 use deps::batches::Batch;
 use deps::sets::DepSet;
 use handlers::lead::lead;
-use handlers::message::Message;
-use handlers::message::Proposal;
 use handlers::prepare::exp_prepare;
-use handlers::proposals::accept;
-use handlers::proposals::commit_notice;
-use handlers::proposals::pre_accept;
 use handlers::replies::accept_reply;
+use outcomes::message::Message;
+use outcomes::message::Proposal;
+use proposing::proposals::accept;
+use proposing::proposals::commit_notice;
+use proposing::proposals::pre_accept;
 use table::place::Place;
 use table::table::Table;
 
@@ -36,7 +36,7 @@ pub struct ReadMessage {
 }
 
 // What the event does to the table.
-pub(crate) fn happen(table: Table, event: Event) -> handlers::outcome::Outcome {
+pub(crate) fn happen(table: Table, event: Event) -> outcomes::outcome::Outcome {
     let tag = event.tag;
     let proposal = event.proposal;
     let message = proposal.message;

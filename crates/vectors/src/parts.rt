@@ -10,7 +10,7 @@ use deps::batches::Request;
 use deps::sets::DepSet;
 use layout::batches::put_batch;
 use layout::numbers::put_word;
-use layout::sets::put_set;
+use octets::sets::put_set;
 
 // How many replicas there are, which one is mine, and how many make a quorum.
 pub struct Config {

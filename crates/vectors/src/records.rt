@@ -5,9 +5,9 @@ use super::contents::contents_at;
 use super::events::place_at;
 use super::list::number_at;
 use super::outcome::Same;
-use handlers::output::Output;
-use handlers::output::Record;
-use handlers::output::What;
+use outcomes::output::Output;
+use outcomes::output::Record;
+use outcomes::output::What;
 use table::place::Place;
 
 // What a record is, the peer that it goes to, and the ballot that it was asked with: 0 where there is none.

@@ -12,7 +12,7 @@ use super::run;
 use super::tally::Tally;
 use super::text;
 use super::union;
-use decisions::recovery::Rule;
+use recovering::recovery::Rule;
 
 // A proved loop has to end, and nothing says here that a case takes a byte. So the loop counts its turns down, from a number
 // that no list uses up.

@@ -1,4 +1,3 @@
 pub mod AnswerLaws
 pub mod HolderLaws
-pub mod RefusalLaws
 pub mod IdenticalLaws

@@ -1,6 +1,5 @@
-// What all decisions share: what replies and votes say, what is decided, who holds enough identical ones, what is refused.
+// What all decisions share: what replies and votes say, what is decided, who holds enough identical ones.
 pub mod contents; // contents.rt: what a reply or vote says
 pub mod answer; // answer.rt: what is decided
 pub mod holder; // holder.rt: a replica or nobody
-pub mod refusal; // refusal.rt: the number of the refusal, if any
 pub mod identical; // identical.rt: the count of identical entries

@@ -233,6 +233,11 @@ impl Replica {
         now(self.0.handle_log_result(id, LogResult::Append { now_size })).expect("a log event within the bounds");
     }
 
+    /// The commit bar alone: an attempt reads it and the slots, and no run bar.
+    pub fn raise(&mut self, row: usize, bar: usize) {
+        self.0.commit_bars[row] = bar;
+    }
+
     pub fn attempt(&mut self, (row, col): SlotAt) -> bool {
         now(self.0.attempt_execution(SlotIdx(small(row), col), false)).expect("an attempt within the bounds")
     }

@@ -1,6 +1,6 @@
 -- `calls::calls::call` meets its contract: lengths first, then bytes that stand for nothing, then the entry on the table that the image is.
 use Rattle.calls.specs.Calls.{callLong, onImage, handledBy}
-use Rattle.handlers.specs.Outcome.{outcomeOf}
+use Rattle.outcomes.specs.Outcome.{outcomeOf}
 use Rattle.table.specs.declared.table.Table.{Table}
 use mathlib.Core.Path.{ap, sym, _∙_}
 use borrow.Author.Tests.{le-leb, lt-leb, eq-eqb, ne-eqb, not-true, not-false}

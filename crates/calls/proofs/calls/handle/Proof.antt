@@ -1,5 +1,5 @@
 -- `calls::calls::handle` meets its contract: one case for each handler.
-use Rattle.handlers.specs.Outcome.{outcomeOf}
+use Rattle.outcomes.specs.Outcome.{outcomeOf}
 use Rattle.calls.specs.Calls.{handledBy}
 use Rattle.calls.specs.declared.calls.Handler.{Handler}
 use mathlib.Core.Path.{ap, sym, _∙_}

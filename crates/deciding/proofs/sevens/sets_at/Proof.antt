@@ -6,7 +6,7 @@ use lib.ListN.{drop, replicate, set}
 use Rattle.deps.specs.declared.sets.DepSet.{DepSet}
 use Rattle.base.proofs.Loops.{mix}
 use Rattle.layout.specs.Each.{eachAt}
-use Rattle.layout.specs.Sets.{rowsAt}
+use Rattle.octets.specs.Sets.{rowsAt}
 use Rattle.deciding.specs.Sevens.{setsAt}
 use Rattle.layout.proofs.EachLaws.{fill-turn, fill-end}
 use borrow.Author.Needs.{needs}

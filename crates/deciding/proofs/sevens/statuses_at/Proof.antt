@@ -7,7 +7,7 @@ use Rattle.base.specs.declared.status.Status.{Status}
 use Rattle.base.specs.declared.status.Status.the-variants.{Null}
 use Rattle.base.proofs.Loops.{mix}
 use Rattle.layout.specs.Each.{eachAt}
-use Rattle.layout.specs.Marks.{statusOf, statusAt}
+use Rattle.octets.specs.Marks.{statusOf, statusAt}
 use Rattle.deciding.specs.Sevens.{statusesAt}
 use Rattle.layout.proofs.EachLaws.{fill-turn, fill-end, byte-is}
 use borrow.Author.Needs.{needs}

@@ -4,10 +4,10 @@ use native.Mathlib.Omega.{arith}
 use Rattle.base.specs.Marks.{marksFit}
 use Rattle.base.proofs.Loops.{both-true}
 use Rattle.votes.specs.Answer.{decisionOf, refused}
-use Rattle.votes.specs.Refusal.{bothFit, refusalOf}
+use Rattle.refusing.specs.Refusal.{bothFit, refusalOf}
 use Rattle.decisions.specs.Fast.{repliesOf, fastAnswer}
 use Rattle.votes.proofs.AnswerLaws.{is-refused, not-refused}
-use Rattle.votes.proofs.RefusalLaws.{refusal-none}
+use Rattle.refusing.proofs.RefusalLaws.{refusal-none}
 use borrow.Author.Needs.{needs}
 use Rattle.decisions.proofs.fast.decision.Statement.{statement}
 use Rattle.decisions.proofs.fast.decision.Tie as tie

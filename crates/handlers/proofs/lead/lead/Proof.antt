@@ -3,11 +3,11 @@ use Rattle.base.specs.declared.answer.Answer.the-variants.{Done}
 use Rattle.slots.specs.Slot.{leading}
 use Rattle.table.specs.Table.{putAt}
 use Rattle.table.specs.declared.table.Table.{Table}
-use Rattle.handlers.specs.Outcome.{outcome, outcomeOf}
+use Rattle.outcomes.specs.Outcome.{outcome, outcomeOf}
+use Rattle.outcomes.specs.Refusal.{leadRefusal}
 use Rattle.handlers.specs.Lead.{leadSlot}
-use Rattle.handlers.specs.Refusal.{leadRefusal}
-use Rattle.handlers.proofs.OutcomeLaws.{is-refused, when-not}
-use Rattle.handlers.proofs.RefusalLaws.{lead-led, placed-row}
+use Rattle.outcomes.proofs.OutcomeLaws.{is-refused, when-not}
+use Rattle.outcomes.proofs.RefusalLaws.{lead-led, placed-row}
 use mathlib.Core.Path.{_≡_, ap, sym, _∙_}
 use mathlib.Core.List.{[]}
 use Prim.Native.Nat.{_-_}

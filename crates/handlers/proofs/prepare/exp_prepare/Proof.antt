@@ -4,14 +4,14 @@ use Rattle.slots.specs.Slot.{heardFrom}
 use Rattle.table.specs.Table.{putAt}
 use Rattle.slots.specs.declared.slot.Slot.{Slot}
 use Rattle.table.specs.declared.table.Table.{Table}
-use Rattle.handlers.specs.Output.{outputOf, replyOf}
-use Rattle.handlers.specs.Outcome.{outcome, doneWith, outcomeOf}
+use Rattle.outcomes.specs.Output.{outputOf, replyOf}
+use Rattle.outcomes.specs.Outcome.{outcome, doneWith, outcomeOf}
+use Rattle.outcomes.specs.Refusal.{messageRefusal}
+use Rattle.outcomes.specs.declared.output.Record.{Record}
 use Rattle.handlers.specs.Prepare.{expPrepare, onGreater}
-use Rattle.handlers.specs.Refusal.{messageRefusal}
-use Rattle.handlers.specs.declared.output.Record.{Record}
+use Rattle.outcomes.proofs.OutcomeLaws.{is-refused, when-not}
+use Rattle.outcomes.proofs.RefusalLaws.{message-heard, placed-row, heard-peer}
 use Rattle.handlers.proofs.TestLaws.{not-greater, greater}
-use Rattle.handlers.proofs.OutcomeLaws.{is-refused, when-not}
-use Rattle.handlers.proofs.RefusalLaws.{message-heard, placed-row, heard-peer}
 use mathlib.Core.Path.{_≡_, ap, sym, _∙_}
 use mathlib.Core.List.{[], _∷_}
 use Prim.Native.Nat.{_-_}

@@ -3,12 +3,12 @@ use Rattle.base.proofs.Tests.{passed, failed}
 use Rattle.slots.specs.Slot.{withMark}
 use Rattle.table.specs.Table.{holds}
 use Rattle.slots.specs.declared.slot.Slot.{Slot}
-use Rattle.handlers.specs.Outcome.{outcomeOf}
+use Rattle.outcomes.specs.Outcome.{outcomeOf}
+use Rattle.outcomes.specs.Refusal.{messageRefusal}
 use Rattle.handlers.specs.Replies.{acceptReply, heeds, onMark, onHeld}
-use Rattle.handlers.specs.Refusal.{messageRefusal}
+use Rattle.outcomes.proofs.OutcomeLaws.{is-refused, when-not}
+use Rattle.outcomes.proofs.RefusalLaws.{message-heard, placed-row, heard-peer}
 use Rattle.handlers.proofs.TestLaws.{not-held, not-heeded, heeded}
-use Rattle.handlers.proofs.OutcomeLaws.{is-refused, when-not}
-use Rattle.handlers.proofs.RefusalLaws.{message-heard, placed-row, heard-peer}
 use mathlib.Core.Path.{_≡_, ap, sym, _∙_}
 use Prim.Native.Nat.{_-_}
 use native.Mathlib.Omega.{arith}

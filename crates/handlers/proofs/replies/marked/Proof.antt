@@ -1,8 +1,8 @@
 -- `handlers::replies::marked` meets its contract: too few marks, or the slot is committed and said to be.
+use Rattle.outcomes.specs.Output.{logOf, noticeOf, outputOf}
+use Rattle.outcomes.specs.Outcome.{outcome, doneWith}
+use Rattle.outcomes.specs.declared.output.Record.{Record}
 use Rattle.handlers.specs.Replies.{onMark}
-use Rattle.handlers.specs.Output.{logOf, noticeOf, outputOf}
-use Rattle.handlers.specs.Outcome.{outcome, doneWith}
-use Rattle.handlers.specs.declared.output.Record.{Record}
 use Rattle.base.specs.declared.answer.Answer.the-variants.{Done}
 use Rattle.table.specs.Table.{putAt}
 use Rattle.table.specs.declared.table.Table.{Table}

@@ -2,7 +2,7 @@
 use Rattle.base.specs.Answer.{numberOf}
 use Rattle.table.specs.declared.open.Opened.{Opened}
 use Rattle.image.specs.Tables.{tableBytes}
-use Rattle.calls.specs.Calls.{isRefused}
+use Rattle.base.specs.Answer.{isRefused}
 use Rattle.host.specs.Messages.{openCode, openImage}
 use mathlib.Core.Path.{ap, sym, _∙_}
 use lib.ListN.{length}

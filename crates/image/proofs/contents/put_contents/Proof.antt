@@ -2,7 +2,8 @@
 use Rattle.layout.specs.Numbers.{wordBytes}
 use Rattle.layout.proofs.Laying.{Laid, next}
 use Rattle.layout.proofs.NumberLaws.{word-length}
-use Rattle.layout.proofs.BatchLaws.{set-length, batch-length}
+use Rattle.layout.proofs.BatchLaws.{batch-length}
+use Rattle.octets.proofs.SetLaws.{set-length}
 use Rattle.image.specs.Contents.{contentsBytes}
 use borrow.Author.Needs.{needs}
 use Rattle.image.proofs.contents.put_contents.Statement.{statement}

@@ -6,7 +6,7 @@ use Rattle.deps.specs.declared.sets.DepSet.{DepSet}
 use Rattle.base.proofs.Loops.{mix}
 use Rattle.keys.specs.Columns.{keysOf}
 use Rattle.layout.specs.Each.{eachAt}
-use Rattle.layout.specs.Sets.{rowsAt}
+use Rattle.octets.specs.Sets.{rowsAt}
 use Rattle.layout.proofs.EachLaws.{fill-turn, fill-end}
 use Rattle.image.specs.Tables.{keysAt}
 use borrow.Author.Needs.{needs}

@@ -10,10 +10,10 @@ use Rattle.deps.specs.declared.sets.DepSet.{DepSet}
 use Rattle.keys.specs.Columns.{keysOf, columnsOf}
 use Rattle.layout.specs.Numbers.{lay}
 use Rattle.layout.specs.Each.{eachBytes}
-use Rattle.layout.specs.Sets.{setBytes}
+use Rattle.octets.specs.Sets.{setBytes}
 use Rattle.layout.proofs.Laying.{lay-length}
 use Rattle.layout.proofs.EachLaws.{lay-turn}
-use Rattle.layout.proofs.BatchLaws.{set-length}
+use Rattle.octets.proofs.SetLaws.{set-length}
 use Rattle.image.specs.Tables.{columnsIn, keysBytes}
 use borrow.Author.Needs.{needs}
 use Rattle.image.proofs.rows.put_keys.Statement.{statement}

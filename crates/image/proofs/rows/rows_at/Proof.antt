@@ -5,7 +5,7 @@ use lib.ListN.{drop, replicate}
 use Rattle.base.proofs.Loops.{mix}
 use Rattle.layout.specs.Each.{eachAt}
 use Rattle.layout.specs.Numbers.{byteOf}
-use Rattle.layout.specs.Sets.{rowsAt}
+use Rattle.octets.specs.Sets.{rowsAt}
 use Rattle.layout.proofs.EachLaws.{fill-turn, fill-end, byte-is}
 use borrow.Author.Needs.{needs}
 use Rattle.image.proofs.rows.rows_at.Statement.{statement}

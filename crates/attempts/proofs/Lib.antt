@@ -1,0 +1,7 @@
+mod FillLaws
+pub mod ReadLaws
+pub mod WaitingLaws
+pub mod RanLaws
+mod StepLaws
+pub mod AttemptLaws
+pub mod RefusedLaws

@@ -1,0 +1,3 @@
+pub mod Reads
+pub mod Refusal
+pub mod Attempt

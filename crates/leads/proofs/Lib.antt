@@ -1,0 +1,4 @@
+pub mod PathLaws
+pub mod FrontierLaws
+mod SearchLaws
+pub mod LeastLaws

@@ -1,0 +1,3 @@
+pub mod SetLaws
+pub mod MarkLaws
+pub mod KnownLaws
