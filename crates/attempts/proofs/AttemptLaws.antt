@@ -1,19 +1,18 @@
 -- What an attempt does, in the words of its rule: Already, NotYet, Done exactly when, and what runs.
-use mathlib.Core.Path.{_≡_, refl, sym, ap, _∙_, subst}
-use mathlib.Core.Bool.{Bool, true, false, cond, not, true≢false}
-use mathlib.Core.List.{List, []}
+use mathlib.Core.Path.{_≡_, refl, sym, ap, _∙_}
+use mathlib.Core.Bool.{Bool, true, false, not, true≢false}
+use mathlib.Core.List.{List}
 use mathlib.Core.Logic.{_↔_}
-use Prim.Native.Nat.{ℕ, suc, _+_, _*_, _/_, _%_, _<_, _≤_}
-use native.Mathlib.Decide.{decLt}
+use Prim.Native.Nat.{ℕ, _+_, _*_, _/_, _%_, _<_, _≤_}
 use native.Mathlib.Omega.{arith}
 use lib.ListN.{length, getD}
 use borrow.Author.Tests.{lt-ltb, leb-false}
-use Rattle.base.specs.Answer.{numberOf, isRefused}
+use Rattle.base.specs.Answer.{numberOf}
 use Rattle.base.proofs.Loops.{some-fails, count-parts}
 use Rattle.base.specs.Marks.{marked}
 use Rattle.base.specs.declared.answer.Answer.{Answer}
-use Rattle.base.specs.declared.answer.Answer.the-variants.{Done, Ignored, NotYet, Already, Refused}
-use Rattle.slots.specs.Slot.{isExecuted, executed}
+use Rattle.base.specs.declared.answer.Answer.the-variants.{Done, NotYet, Already}
+use Rattle.slots.specs.Slot.{executed}
 use Rattle.table.specs.Bounds.{tableFits}
 use Rattle.table.specs.Place.{indexOf}
 use Rattle.table.specs.Table.{lenOf, barOf, slotNo}
@@ -21,7 +20,7 @@ use Rattle.table.specs.declared.place.Place.{Place}
 use Rattle.table.specs.declared.table.Table.{Table}
 use Rattle.table.proofs.BoundLaws.{table-fits-each}
 use Rattle.leads.specs.Depends.{Valid, Leads}
-use Rattle.leads.specs.Frontier.{In, frontier}
+use Rattle.leads.specs.Frontier.{In}
 use Rattle.leads.proofs.FrontierLaws.{frontier-sound, frontier-whole, frontier-length, frontier-low, in-rows}
 use Rattle.order.specs.Listed.{On, Has, howMany}
 use Rattle.order.specs.Paper.{Paper, Ties}
@@ -62,15 +61,15 @@ module _ (t : Table) (at : Place) (h : tableFits t ≡ true) (row : at .row < 7)
   valid : Valid (depsOf t)
   valid = deps-valid t h
 
-  pub reached-in : (j : ℕ) → Reached j → In (reached t at) j
+  reached-in : (j : ℕ) → Reached j → In (reached t at) j
   unfolding reached
   reached-in j l = frontier-whole (depsOf t) valid (indexOf at) j (omega arith) l
 
-  pub in-reached : (j : ℕ) → In (reached t at) j → Reached j
+  in-reached : (j : ℕ) → In (reached t at) j → Reached j
   unfolding reached
   in-reached j i = frontier-sound (depsOf t) valid (indexOf at) j i
 
-  pub reached-slot : (j : ℕ) → Reached j → j < 224
+  reached-slot : (j : ℕ) → Reached j → j < 224
   unfolding reached
   reached-slot j l =
       let r = in-rows (reached t at) (j % 32) (j / 32) (frontier-length (depsOf t) valid (indexOf at)) (reached-in j l) in
@@ -212,17 +211,14 @@ module _ (t : Table) (at : Place) (h : tableFits t ≡ true) (row : at .row < 7)
 
   -- what runs had not run, so that the attempts of one call never write more than the slots that had not run before it
   pub unrun-falls : attemptOn t at .ran + unrun (attemptOn t at .table) ≤ unrun t
-  unrun-falls = go (answerOf t at) refl
+  unrun-falls = answer-cases t at (λ a. answerOf t at ≡ a → attemptOn t at .ran + unrun (attemptOn t at .table) ≤ unrun t)
+      (λ _ e. nothing (λ d. absurd (omega (arith, ap numberOf (sym e ∙ d)))))
+      (λ _ _ e. omega (arith, done-number e, ap unrun (done-table e), done-falls e))
+      (λ _ _ e. nothing (λ d. absurd (omega (arith, ap numberOf (sym e ∙ d)))))
+      refl
     where
       nothing : (answerOf t at ≡ Done → ⊥) → attemptOn t at .ran + unrun (attemptOn t at .table) ≤ unrun t
       nothing n = let w = others-nothing n in omega (arith, w .1, ap unrun (w .0))
-
-      go : (a : Answer) → answerOf t at ≡ a → attemptOn t at .ran + unrun (attemptOn t at .table) ≤ unrun t
-      go Done e = omega (arith, done-number e, ap unrun (done-table e), done-falls e)
-      go Ignored e = nothing (λ d. absurd (omega (arith, ap numberOf (sym e ∙ d))))
-      go NotYet e = nothing (λ d. absurd (omega (arith, ap numberOf (sym e ∙ d))))
-      go Already e = nothing (λ d. absurd (omega (arith, ap numberOf (sym e ∙ d))))
-      go (Refused n) e = nothing (λ d. absurd (true≢false (ap isRefused (sym e ∙ d))))
 
   pub attempt-keeps : tableFits (attemptOn t at .table) ≡ true
   unfolding attemptOn

@@ -1,6 +1,6 @@
 mod FillLaws
 pub mod ReadLaws
-pub mod WaitingLaws
+mod WaitingLaws
 pub mod RanLaws
 mod StepLaws
 pub mod AttemptLaws

@@ -1,14 +1,13 @@
 -- The table after the marked slots have run.
-use mathlib.Core.Path.{_≡_, refl, sym, ap, _∙_}
-use mathlib.Core.Bool.{Bool, true, false, cond, not}
+use mathlib.Core.Path.{_≡_, refl, sym, _∙_, subst}
+use mathlib.Core.Bool.{Bool, true, false, cond}
 use mathlib.Core.List.{List}
-use Prim.Native.Nat.{ℕ, zero, suc, _+_, _/_, _%_, _<_, _≤_}
+use Prim.Native.Nat.{ℕ, _/_, _%_, _<_}
 use native.Mathlib.Omega.{arith}
-use lib.ListN.{length, getD}
-use Rattle.base.specs.Below.{countBelow}
+use lib.ListN.{length}
 use Rattle.base.specs.Marks.{marked}
 use Rattle.base.proofs.Loops.{length-below, below-at, below-same}
-use Rattle.slots.specs.Slot.{blankSlot, slotFits, isExecuted, executed}
+use Rattle.slots.specs.Slot.{blankSlot, slotFits, executed}
 use Rattle.slots.specs.declared.slot.Slot.{Slot}
 use Rattle.table.specs.Bounds.{tableFits}
 use Rattle.table.specs.Table.{slotNo}
@@ -18,7 +17,7 @@ use Rattle.attempts.specs.Reads.{isHeldNo, depOfNo, depsOf, seqsOf}
 use Rattle.attempts.specs.Attempt.{ranNo, ranWith}
 
 module _ (t : Table) (marks : List Bool) where
-  pub ran-slot : (i : ℕ) → i < 224 → slotNo (ranWith t marks) i ≡ ranNo t marks i
+  ran-slot : (i : ℕ) → i < 224 → slotNo (ranWith t marks) i ≡ ranNo t marks i
   unfolding ranWith
   ran-slot i l = below-at 224 (ranNo t marks) i blankSlot l
 
@@ -33,13 +32,17 @@ module _ (t : Table) (marks : List Bool) where
   unfolding ranWith
   ran-length = length-below 224 (ranNo t marks)
 
+  -- what holds of a slot before and of it Executed holds after
+  ran-still : (P : Slot → Type 0) (i : ℕ) → i < 224 → P (slotNo t i) → P (executed (slotNo t i)) → P (slotNo (ranWith t marks) i)
+  ran-still P i l p q = subst P (sym (ran-slot i l)) (go (marked marks i))
+    where
+      go : (b : Bool) → P (cond b (executed (slotNo t i)) (slotNo t i))
+      go true = q
+      go false = p
+
   slot-keeps : (n i : ℕ) → i < 224 → slotFits n (slotNo t i) ≡ true → slotFits n (slotNo (ranWith t marks) i) ≡ true
   unfolding slotFits
-  slot-keeps n i l h = go (marked marks i) refl
-    where
-      go : (b : Bool) → marked marks i ≡ b → slotFits n (slotNo (ranWith t marks) i) ≡ true
-      go true e = ap (slotFits n) (ran-marked i l e) ∙ h
-      go false e = ap (slotFits n) (ran-others i l e) ∙ h
+  slot-keeps n i l h = ran-still (λ s. slotFits n s ≡ true) i l h h
 
   pub ran-keeps : tableFits t ≡ true → tableFits (ranWith t marks) ≡ true
   unfolding ranWith
@@ -55,13 +58,6 @@ module _ (t : Table) (marks : List Bool) where
       })
 
   -- its lengths, bars, dependencies and sequences are those of before
-  ran-set : (i : ℕ) → i < 224 → slotNo (ranWith t marks) i .deps ≡ slotNo t i .deps
-  ran-set i l = go (marked marks i) refl
-    where
-      go : (b : Bool) → marked marks i ≡ b → slotNo (ranWith t marks) i .deps ≡ slotNo t i .deps
-      go true e = ap (λ (s : Slot). s .deps) (ran-marked i l e)
-      go false e = ap (λ (s : Slot). s .deps) (ran-others i l e)
-
   pub ran-held : (i : ℕ) → isHeldNo (ranWith t marks) i ≡ isHeldNo t i
   unfolding ranWith
   ran-held i = refl
@@ -70,12 +66,8 @@ module _ (t : Table) (marks : List Bool) where
   unfolding depsOf
   ran-deps =
       below-same 1568 (λ k. depOfNo (ranWith t marks) (k / 7) (k % 7)) (λ k. depOfNo t (k / 7) (k % 7))
-      (λ k l. rw (ran-held (k / 7), ran-set (k / 7) (omega arith)))
+      (λ k l. rw (ran-held (k / 7), ran-still (λ s. s .deps ≡ slotNo t (k / 7) .deps) (k / 7) (omega arith) refl refl))
 
   pub ran-seqs : seqsOf (ranWith t marks) ≡ seqsOf t
   unfolding seqsOf
-  ran-seqs = below-same 224 (λ i. slotNo (ranWith t marks) i .seq) (λ i. slotNo t i .seq) (λ i l. go i l (marked marks i) refl)
-    where
-      go : (i : ℕ) → i < 224 → (b : Bool) → marked marks i ≡ b → slotNo (ranWith t marks) i .seq ≡ slotNo t i .seq
-      go i l true e = ap (λ (s : Slot). s .seq) (ran-marked i l e)
-      go i l false e = ap (λ (s : Slot). s .seq) (ran-others i l e)
+  ran-seqs = below-same 224 (λ i. slotNo (ranWith t marks) i .seq) (λ i. slotNo t i .seq) (λ i l. ran-still (λ s. s .seq ≡ slotNo t i .seq) i l refl refl)

@@ -1,10 +1,9 @@
 -- What an attempt reads of the table, number by number.
-use mathlib.Core.Path.{_≡_, refl, ap, _∙_}
+use mathlib.Core.Path.{_≡_, refl, ap}
 use mathlib.Core.Bool.{Bool, true, false}
 use Prim.Native.Nat.{ℕ, zero, suc, _+_, _*_, _/_, _%_, _<_, _≤_}
 use native.Mathlib.Decide.{decLt}
 use native.Mathlib.Omega.{arith}
-use lib.Dec.{ltb}
 use lib.ListN.{length, getD, List·getD-eq-default}
 use borrow.Author.Tests.{lt-ltb, ltb-true}
 use Rattle.base.proofs.Loops.{length-below, below-at}
@@ -40,7 +39,7 @@ module _ (t : Table) where
           rw e (number-low (t .config .n) (slotNo t i .deps) (slot-fits-each (t .config .n) (slotNo t i) f .deps-fit) row m)
       go false e = rw e (omega arith)
 
-  pub deps-length : length (depsOf t) ≡ 1568
+  deps-length : length (depsOf t) ≡ 1568
   unfolding depsOf
   deps-length = length-below 1568 _
 

@@ -2,7 +2,7 @@
 use mathlib.Core.Path.{_≡_, refl, ap, sym, _∙_, subst}
 use mathlib.Core.List.{List}
 use mathlib.Core.Logic.{_↔_}
-use mathlib.Core.Bool.{Bool, true, false, not, true≢false}
+use mathlib.Core.Bool.{true, false, not, true≢false}
 use Prim.Native.Nat.{ℕ, zero, suc, _+_, _<_, _≤_}
 use native.Mathlib.Omega.{arith}
 use borrow.Author.Tests.{lt-ltb, le-ltb, le-leb, lt-leb, ltb-true, ltb-false, leb-true, leb-false}
@@ -10,7 +10,7 @@ use lib.ListN.{length}
 use Rattle.base.specs.Answer.{numberOf, isRefused}
 use Rattle.base.specs.Refusals.{firstRefusal, shortOrder, outsideBounds, noReplica, noColumn}
 use Rattle.base.specs.declared.answer.Answer.{Answer}
-use Rattle.base.specs.declared.answer.Answer.the-variants.{Done, Ignored, NotYet, Already, Refused}
+use Rattle.base.specs.declared.answer.Answer.the-variants.{Refused}
 use Rattle.base.proofs.Loops.{count-at-most}
 use Rattle.base.proofs.RefusalLaws.{first-passed, at-first}
 use Rattle.table.specs.Bounds.{tableFits}
@@ -19,7 +19,7 @@ use Rattle.table.specs.declared.table.Table.{Table}
 use Rattle.table.proofs.BoundLaws.{row-below}
 use Rattle.attempts.specs.Reads.{hasRun}
 use Rattle.attempts.specs.Refusal.{attemptTests, attemptRefusal}
-use Rattle.attempts.specs.Attempt.{answerOf, tried, attemptOn, orderOn, unrun, attemptOr, orderOr, attemptOf, attemptOrder}
+use Rattle.attempts.specs.Attempt.{tried, attemptOn, orderOn, unrun, attemptOr, orderOr, attemptOf, attemptOrder}
 use Rattle.attempts.proofs.AttemptLaws.{answer-cases}
 
 -- when each number is given, in the order of the refusals
@@ -76,7 +76,7 @@ module _ (t : Table) (at : Place) (entries : ℕ) where
 
   pub attempt-exactly : (k : ℕ) → (attemptOf t at entries .answer ≡ Refused k) ↔ AttemptRefused t at entries k
   unfolding attemptOf
-  attempt-exactly k = (go (attemptRefusal t at entries) refl, λ w. back (refusal-number w))
+  attempt-exactly k = (go (attemptRefusal t at entries) refl, λ w. let r = refusal-number w in back k (r .0) (r .1))
     where
       go : (n : ℕ) → attemptRefusal t at entries ≡ n → attemptOr n t at .answer ≡ Refused k → AttemptRefused t at entries k
       go zero e q = absurd (not-refused k q)
@@ -84,12 +84,9 @@ module _ (t : Table) (at : Place) (entries : ℕ) where
           let same : suc n ≡ k = ap numberOf q in
           subst (AttemptRefused t at entries) (e ∙ same) (some-refusal (omega arith))
 
-      back : (attemptRefusal t at entries ≡ k) × (0 < k) → attemptOr (attemptRefusal t at entries) t at .answer ≡ Refused k
-      back (e, l) = step k e l
-        where
-          step : (n : ℕ) → attemptRefusal t at entries ≡ n → 0 < n → attemptOr (attemptRefusal t at entries) t at .answer ≡ Refused n
-          step zero e l = absurd (omega arith)
-          step (suc n) e l = rw e refl
+      back : (n : ℕ) → attemptRefusal t at entries ≡ n → 0 < n → attemptOr (attemptRefusal t at entries) t at .answer ≡ Refused n
+      back zero e l = absurd (omega arith)
+      back (suc n) e l = rw e refl
 
 -- ---- the two ways of the entry
 

@@ -1,8 +1,8 @@
 -- The steps of an attempt, from the tests that they have passed.
-use mathlib.Core.Path.{_≡_, refl, sym, ap, _∙_, subst}
+use mathlib.Core.Path.{_≡_, refl, sym, ap, _∙_}
 use mathlib.Core.Bool.{Bool, true, false}
 use mathlib.Core.List.{List}
-use Prim.Native.Nat.{ℕ, _+_, _*_, _-_, _<_, _≤_}
+use Prim.Native.Nat.{ℕ, _+_, _-_, _≤_}
 use native.Mathlib.Omega.{arith}
 use lib.ListN.{length, replicate}
 use lib.Seq.{sets}
@@ -19,7 +19,6 @@ use Rattle.order.specs.Listed.{howMany}
 use Rattle.order.specs.Order.{orderOf}
 use Rattle.attempts.specs.Reads.{hasRun, depsOf, seqsOf}
 use Rattle.attempts.specs.Attempt.{reached, allBelowBars, waitingIn, ranWith, toRun, tried, attemptOn, orderOn, unrun}
-use Rattle.attempts.specs.declared.attempt.Attempted.{Attempted}
 use Rattle.attempts.proofs.ReadLaws.{deps-valid}
 use Rattle.attempts.proofs.WaitingLaws.{waiting-room}
 

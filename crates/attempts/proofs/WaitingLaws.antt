@@ -1,15 +1,14 @@
 -- Whether what is reached is below the bars, and which slots of it wait.
-use mathlib.Core.Path.{_≡_, refl, sym, ap, _∙_}
+use mathlib.Core.Path.{_≡_, refl, sym, _∙_}
 use mathlib.Core.Bool.{Bool, true, false, cond, not, and-false}
 use mathlib.Core.List.{List, [], _∷_, _++_}
-use Prim.Native.Nat.{ℕ, zero, suc, _+_, _/_, _%_, _<_, _≤_}
+use Prim.Native.Nat.{ℕ, zero, suc, _+_, _<_, _≤_}
 use native.Mathlib.Omega.{arith}
-use lib.Dec.{ltb}
 use lib.ListN.{length, getD}
-use borrow.Author.Tests.{lt-ltb, ltb-true, le-leb, leb-true, not-true}
+use borrow.Author.Tests.{lt-ltb, ltb-true, leb-true, not-true}
 use Rattle.base.specs.Below.{listBelow, countBelow}
 use Rattle.base.specs.Marks.{marked}
-use Rattle.base.proofs.Loops.{both-true, all-at, all-each, length-below, below-at, count-less}
+use Rattle.base.proofs.Loops.{both-true, all-at, length-below, below-at, count-less}
 use Rattle.slots.specs.Slot.{isExecuted}
 use Rattle.table.specs.Table.{barOf, slotNo}
 use Rattle.table.specs.declared.table.Table.{Table}
@@ -23,10 +22,6 @@ module _ (t : Table) (F : List ℕ) where
   pub below-each : allBelowBars t F ≡ true → (row : ℕ) → row < 7 → getD F row 0 ≤ barOf t row
   unfolding allBelowBars
   below-each h row l = leb-true _ _ (all-at (rowBelowBar t F) 7 h row l)
-
-  pub each-below : ((row : ℕ) → row < 7 → getD F row 0 ≤ barOf t row) → allBelowBars t F ≡ true
-  unfolding allBelowBars
-  each-below h = all-each (rowBelowBar t F) 7 (λ row l. le-leb _ _ (h row l))
 
   pub waiting-length : length (waitingIn t F) ≡ 224
   unfolding waitingIn

@@ -1,14 +1,13 @@
 -- The frontier of slot i, found by rounds, is what i leads to; and two slots lead to each other exactly when their frontiers are equal.
---
 use mathlib.Core.Path.{_≡_, refl, sym, ap, _∙_, subst}
 use mathlib.Core.Bool.{Bool, true, false, cond}
-use mathlib.Core.List.{List, [], _∷_}
+use mathlib.Core.List.{List}
 use mathlib.Core.Logic.{_⊎_, inl, inr, ⊎-elim, _↔_}
-use Prim.Native.Nat.{ℕ, zero, suc, _+_, _*_, _/_, _%_, _-_, _≤_, _<_, max}
-use native.Mathlib.Nat.{not-suc-le-zero, le-of-suc-le-suc, add-zero, zero-add}
+use Prim.Native.Nat.{ℕ, zero, suc, _+_, _*_, _/_, _%_, _-_, _≤_, _<_}
+use native.Mathlib.Nat.{not-suc-le-zero}
 use native.Mathlib.Decide.{ℕ-discrete, decLt}
 use native.Mathlib.Omega.{arith}
-use lib.Dec.{ltb, eqb}
+use lib.Dec.{eqb}
 use lib.ListN.{getD, length, List·getD-eq-default}
 use lib.Seq.{ext-getD}
 use borrow.Author.Tests.{lt-ltb, ltb-true, eq-eqb, eqb-true}
@@ -24,14 +23,21 @@ in-rows F c r len h = elim (decLt r 7) [
   | no ge ↦ absurd (omega (arith, List·getD-eq-default F 0 {n = r} (omega arith)))
 ]
 
+-- what bounds each of seven rows bounds all
+pub rows-at-most : (F : List ℕ) (b : ℕ → ℕ) → length F ≡ 7 → ((r : ℕ) → r < 7 → getD F r 0 ≤ b r) → (r : ℕ) → getD F r 0 ≤ b r
+rows-at-most F b len h r = elim (decLt r 7) [
+  | yes lt ↦ h r lt
+  | no ge ↦ omega (arith, List·getD-eq-default F 0 {n = r} (omega arith))
+]
+
 -- n where the test holds, else 0
-pub given-in : (b : Bool) (c n : ℕ) → c < cond b n 0 → (b ≡ true) × (c < n)
+given-in : (b : Bool) (c n : ℕ) → c < cond b n 0 → (b ≡ true) × (c < n)
 given-in true c n h = (refl, h)
 given-in false c n h = absurd (not-suc-le-zero h)
 
-given-le : (b : Bool) (n : ℕ) → cond b n 0 ≤ n
-given-le true n = omega arith
-given-le false n = omega arith
+pub given-at-most : (b : Bool) (n m : ℕ) → (b ≡ true → n ≤ m) → cond b n 0 ≤ m
+given-at-most true n m h = h refl
+given-at-most false n m h = omega arith
 
 -- ---- a round
 module _ (deps F : List ℕ) (r : ℕ) where
@@ -39,13 +45,13 @@ module _ (deps F : List ℕ) (r : ℕ) where
   unfolding raised
   raised-own = omega arith
 
-  pub raised-dep : (k : ℕ) → k < 224 → In F k → numberIn deps k r ≤ raised deps F r
+  raised-dep : (k : ℕ) → k < 224 → In F k → numberIn deps k r ≤ raised deps F r
   unfolding raised
   raised-dep k lt h =
       let e : askedBy deps F r k ≡ numberIn deps k r = rw (lt-ltb (k % 32) (getD F (k / 32) 0) h) in
       omega (arith, greatest-at (askedBy deps F r) 224 k lt)
 
-  pub raised-from : (c : ℕ) → c < raised deps F r → (c < getD F r 0) ⊎ ((k : ℕ) × (In F k) × (c < numberIn deps k r))
+  raised-from : (c : ℕ) → c < raised deps F r → (c < getD F r 0) ⊎ ((k : ℕ) × (In F k) × (c < numberIn deps k r))
   unfolding raised
   raised-from c h = elim (decLt c (getD F r 0)) [
     | yes own ↦ inl own
@@ -55,10 +61,10 @@ module _ (deps F : List ℕ) (r : ℕ) where
         inr (x .0, ltb-true (x .0 % 32) (getD F (x .0 / 32) 0) (w .0), w .1)
   ]
 
-  raised-bound : Valid deps → getD F r 0 ≤ 32 → raised deps F r ≤ 32
-  unfolding raised Valid
-  raised-bound v h =
-      omega (arith, greatest-at-most (askedBy deps F r) 32 224 (λ k lt. omega (arith, given-le (isIn F k) (numberIn deps k r), v (7 * k + r))))
+  pub raised-at-most : (b : ℕ) → getD F r 0 ≤ b → ((k : ℕ) → In F k → numberIn deps k r ≤ b) → raised deps F r ≤ b
+  unfolding raised
+  raised-at-most b own dep =
+      omega (arith, greatest-at-most (askedBy deps F r) b 224 (λ k lt. given-at-most (isIn F k) (numberIn deps k r) b (λ e. dep k (ltb-true (k % 32) (getD F (k / 32) 0) e))))
 
 pub round-length : (deps F : List ℕ) → length (round deps F) ≡ 7
 unfolding round
@@ -75,6 +81,12 @@ first-length i = length-below 7 (upTo i)
 pub first-at : (i r : ℕ) → r < 7 → getD (first i) r 0 ≡ upTo i r
 unfolding first
 first-at i r h = below-at 7 (upTo i) r 0 h
+
+-- what a round keeps, the rounds keep
+pub rounds-keep : (deps : List ℕ) (P : List ℕ → Type 0) → ((F : List ℕ) → P F → P (round deps F)) → (n : ℕ) (F : List ℕ) → P F → P (rounds deps n F)
+unfolding rounds
+rounds-keep deps P keeps zero F h = h
+rounds-keep deps P keeps (suc n) F h = rounds-keep deps P keeps n (round deps F) (keeps F h)
 
 -- ---- all that is in the frontier is led to
 abbrev Led : List ℕ → ℕ → List ℕ → Type 0
@@ -103,13 +115,8 @@ round-led deps i F v led j h =
     ⊎-elim (λ own. led j own) (λ w. by-dep deps i j (w .0) v lt (w .2) (led (w .0) (w .1)))
     (raised-from deps F (j / 32) (j % 32) (rw (round-at deps F (j / 32) lt) at h))
 
-rounds-led : (deps : List ℕ) (i n : ℕ) (F : List ℕ) → Valid deps → Led deps i F → Led deps i (rounds deps n F)
-unfolding rounds
-rounds-led deps i zero F v led = led
-rounds-led deps i (suc n) F v led = rounds-led deps i n (round deps F) v (round-led deps i F v led)
-
 -- ---- a round that adds nothing, and that one comes
-abbrev pub Fixed : List ℕ → List ℕ → Type 0
+abbrev Fixed : List ℕ → List ℕ → Type 0
 Fixed deps F = round deps F ≡ F
 
 pub sum : List ℕ → ℕ → ℕ
@@ -121,7 +128,7 @@ unfolding sum
 sum-bound F b zero = omega arith
 sum-bound F b (suc n) = omega (arith, sum-bound F b n, b n)
 
-pub sum-le : (F G : List ℕ) (n : ℕ) → ((r : ℕ) → r < n → getD F r 0 ≤ getD G r 0) → sum F n ≤ sum G n
+sum-le : (F G : List ℕ) (n : ℕ) → ((r : ℕ) → r < n → getD F r 0 ≤ getD G r 0) → sum F n ≤ sum G n
 unfolding sum
 sum-le F G zero le = omega arith
 sum-le F G (suc n) le = omega (arith, sum-le F G n (λ r h. le r (omega arith)), le n (omega arith))
@@ -150,24 +157,14 @@ abbrev Low : List ℕ → Type 0
 Low F = (r : ℕ) → getD F r 0 ≤ 32
 
 round-low : (deps F : List ℕ) → Valid deps → Low F → Low (round deps F)
-round-low deps F v low r = elim (decLt r 7) [
-  | yes lt ↦ rw (round-at deps F r lt) (raised-bound deps F r v (low r))
-  | no ge ↦ omega (arith, List·getD-eq-default (round deps F) 0 {n = r} (omega (arith, round-length deps F)))
-]
+unfolding Valid
+round-low deps F v low = rows-at-most (round deps F) (λ _. 32) (round-length deps F) (λ r lt. rw (round-at deps F r lt) (raised-at-most deps F r 32 (low r) (λ k _. v (7 * k + r))))
 
 first-low : (i : ℕ) → Low (first i)
-first-low i r = elim (decLt r 7) [
-  | yes lt ↦ rw (first-at i r lt) (omega (arith, given-le (eqb r (i / 32)) (suc (i % 32))))
-  | no ge ↦ omega (arith, List·getD-eq-default (first i) 0 {n = r} (omega (arith, first-length i)))
-]
+first-low i = rows-at-most (first i) (λ _. 32) (first-length i) (λ r lt. rw (first-at i r lt) (given-at-most (eqb r (i / 32)) (suc (i % 32)) 32 (λ _. omega arith)))
 
 round-more : (deps F : List ℕ) (r : ℕ) → r < 7 → getD F r 0 ≤ getD (round deps F) r 0
 round-more deps F r h = rw (round-at deps F r h) (raised-own deps F r)
-
-rounds-still : (deps F : List ℕ) → Fixed deps F → (n : ℕ) → rounds deps n F ≡ F
-unfolding rounds
-rounds-still deps F fx zero = refl
-rounds-still deps F fx (suc n) = ap (rounds deps n) fx ∙ rounds-still deps F fx n
 
 -- of so many rounds the last adds nothing
 rounds-fixed : (deps : List ℕ) (n : ℕ) (F : List ℕ) → Valid deps → length F ≡ 7 → Low F → 224 < n + sum F 7 → Fixed deps (rounds deps n F)
@@ -176,25 +173,10 @@ rounds-fixed deps zero F v len low h = absurd (omega (arith, sum-bound F low 7))
 rounds-fixed deps (suc n) F v len low h = ⊎-elim
     (λ same.
     let fx : Fixed deps F = ext-getD 0 (round deps F) F (round-length deps F ∙ sym len) (λ r lt. same r (omega (arith, round-length deps F))) in
-    let still : rounds deps n (round deps F) ≡ F = ap (rounds deps n) fx ∙ rounds-still deps F fx n in
+    let still : rounds deps n (round deps F) ≡ F = rounds-keep deps (λ G. G ≡ F) (λ G e. ap (round deps) e ∙ fx) n (round deps F) fx in
     ap (round deps) still ∙ fx ∙ sym still)
     (λ lt. rounds-fixed deps n (round deps F) v (round-length deps F) (round-low deps F v low) (omega arith))
     (sum-grows F (round deps F) 7 (round-more deps F))
-
-rounds-length : (deps : List ℕ) (n : ℕ) (F : List ℕ) → length F ≡ 7 → length (rounds deps n F) ≡ 7
-unfolding rounds
-rounds-length deps zero F len = len
-rounds-length deps (suc n) F len = rounds-length deps n (round deps F) (round-length deps F)
-
-rounds-low : (deps : List ℕ) (n : ℕ) (F : List ℕ) → Valid deps → Low F → Low (rounds deps n F)
-unfolding rounds
-rounds-low deps zero F v low = low
-rounds-low deps (suc n) F v low = rounds-low deps n (round deps F) v (round-low deps F v low)
-
-rounds-kept : (deps : List ℕ) (n : ℕ) (F : List ℕ) (j : ℕ) → j / 32 < 7 → In F j → In (rounds deps n F) j
-unfolding rounds
-rounds-kept deps zero F j lt h = h
-rounds-kept deps (suc n) F j lt h = rounds-kept deps n (round deps F) j lt (omega (arith, round-more deps F (j / 32) lt))
 
 first-in : (i : ℕ) → i < 224 → In (first i) i
 first-in i h =
@@ -203,12 +185,15 @@ first-in i h =
 
 -- where a round adds nothing, all that a slot in F depends on is in F
 module _ (deps F : List ℕ) (len : length F ≡ 7) (fx : Fixed deps F) where
-  fixed-one : (k j : ℕ) → Depends deps k j → In F k → In F j
-  fixed-one k j (named lt e) h =
+  pub fixed-dep : (k r : ℕ) → r < 7 → In F k → numberIn deps k r ≤ getD F r 0
+  fixed-dep k r lt h =
       let k<7 : k / 32 < 7 = in-rows F (k % 32) (k / 32) len h in
-      let most = raised-dep deps F (j / 32) k (omega arith) h in
-      let same : raised deps F (j / 32) ≡ getD F (j / 32) 0 = sym (round-at deps F (j / 32) lt) ∙ ap (λ (G : List ℕ). getD G (j / 32) 0) fx in
+      let most = raised-dep deps F r k (omega arith) h in
+      let same : raised deps F r ≡ getD F r 0 = sym (round-at deps F r lt) ∙ ap (λ (G : List ℕ). getD G r 0) fx in
       omega arith
+
+  fixed-one : (k j : ℕ) → Depends deps k j → In F k → In F j
+  fixed-one k j (named lt e) h = omega (arith, fixed-dep k (j / 32) lt h)
   fixed-one k j (earlier row col) h =
       let at : j % 32 < getD F (k / 32) 0 = omega arith in
       rw (← row) at
@@ -226,19 +211,19 @@ module _ (deps : List ℕ) (v : Valid deps) where
 
   pub frontier-length : (i : ℕ) → length (frontier deps i) ≡ 7
   unfolding frontier
-  frontier-length i = rounds-length deps 224 (first i) (first-length i)
+  frontier-length i = rounds-keep deps (λ F. length F ≡ 7) (λ F _. round-length deps F) 224 (first i) (first-length i)
 
   pub frontier-low : (i : ℕ) → Low (frontier deps i)
   unfolding frontier
-  frontier-low i = rounds-low deps 224 (first i) v (first-low i)
+  frontier-low i = rounds-keep deps Low (λ F. round-low deps F v) 224 (first i) (first-low i)
 
   pub frontier-own : (i : ℕ) → i < 224 → In (frontier deps i) i
   unfolding frontier
-  frontier-own i h = rounds-kept deps 224 (first i) i (omega arith) (first-in i h)
+  frontier-own i h = rounds-keep deps (λ F. In F i) (λ F k. omega (arith, k, round-more deps F (i / 32) (omega arith))) 224 (first i) (first-in i h)
 
   pub frontier-sound : (i j : ℕ) → In (frontier deps i) j → Leads deps i j
   unfolding frontier
-  frontier-sound i j h = rounds-led deps i 224 (first i) v (first-led deps i) j h
+  frontier-sound i = rounds-keep deps (Led deps i) (λ F. round-led deps i F v) 224 (first i) (first-led deps i)
 
   pub frontier-whole : (i j : ℕ) → i < 224 → Leads deps i j → In (frontier deps i) j
   frontier-whole i j h l = fixed-whole deps (frontier deps i) (frontier-length i) (frontier-fixed i h) i j l (frontier-own i h)

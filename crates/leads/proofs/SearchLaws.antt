@@ -1,14 +1,14 @@
 -- The ways of `visit` and `rows`: what is added is in every shut set, and what it depends on is added.
-use mathlib.Core.Path.{_≡_, refl, sym, ap, _∙_, subst}
-use mathlib.Core.Bool.{Bool, true, false}
-use mathlib.Core.List.{List, [], _∷_}
+use mathlib.Core.Path.{_≡_, subst}
+use mathlib.Core.List.{List}
 use mathlib.Core.Logic.{_⊎_, inl, inr, ⊎-elim}
 use Prim.Native.Nat.{ℕ, zero, suc, _+_, _*_, _/_, _%_, _-_, _≤_, _<_}
 use native.Mathlib.Nat.{not-suc-le-zero}
 use native.Mathlib.Decide.{ℕ-discrete, decLt}
 use native.Mathlib.Omega.{arith}
-use lib.ListN.{length, getD, set, length-set}
+use lib.ListN.{length, getD, set}
 use lib.Seq.{getD-set-same, getD-set-other}
+use borrow.Author.Count.{below-more}
 use Rattle.leads.specs.Frontier.{In}
 use Rattle.leads.specs.Search.{Within, ShutAt, Shut, Grown, Visited, Passed}
 
@@ -22,7 +22,7 @@ unfolding room
 room-le F G zero w = omega arith
 room-le F G (suc n) w = omega (arith, room-le F G n w, w n)
 
-pub room-less : (F G : List ℕ) (n r : ℕ) → Within F G → r < n → getD F r 0 < getD G r 0 → getD F r 0 < 32 → room G n < room F n
+room-less : (F G : List ℕ) (n r : ℕ) → Within F G → r < n → getD F r 0 < getD G r 0 → getD F r 0 < 32 → room G n < room F n
 unfolding room
 room-less F G zero r w lt more small = absurd (not-suc-le-zero lt)
 room-less F G (suc n) r w lt more small = elim (ℕ-discrete r n) [
@@ -38,7 +38,7 @@ module _ (F : List ℕ) (r : ℕ) (lt : r < length F) where
   abbrev pub more : List ℕ
   more = set F r (getD F r 0 + 1)
 
-  pub put-more : Within F more
+  put-more : Within F more
   put-more q = elim (ℕ-discrete q r) [
     | yes e ↦ rw e (omega (arith, getD-set-same F r (getD F r 0 + 1) 0 lt))
     | no ne ↦ omega (arith, getD-set-other F r q (getD F r 0 + 1) 0 ne)
@@ -75,9 +75,16 @@ pub visit-in : (deps : List ℕ) (r k : ℕ) (F : List ℕ) → k ≤ getD F r 0
 visit-in deps r k F h = record { grown = same deps r k F; done = h }
 
 -- shut stays shut as slots are added
-shut-kept : (deps F G : List ℕ) (j r : ℕ) → Within F G → ShutAt deps F j r → ShutAt deps G j r
+pub shut-kept : (deps F G : List ℕ) (j r : ℕ) → Within F G → ShutAt deps F j r → ShutAt deps G j r
 unfolding ShutAt
 shut-kept deps F G j r w s q le lt = omega (arith, s q le lt, w q)
+
+-- of two steps the second keeps shut what the first has shut
+shut-then : (deps : List ℕ) (r k q n : ℕ) (F G T : List ℕ) → Grown deps r k F G → Grown deps q n G T → (j : ℕ) → In T j → In F j ⊎ ShutAt deps T j 0
+shut-then deps r k q n F G T p v j h = ⊎-elim
+    (λ was. ⊎-elim inl (λ s. inr (shut-kept deps G T j 0 (v .kept) s)) (p .shut j was))
+    inr
+    (v .shut j h)
 
 module _ (deps : List ℕ) (r k : ℕ) (F G T : List ℕ) (lt : r < length F) (small : k ≤ 32) (out : getD F r 0 < k)
     (p : Passed deps (32 * r + getD F r 0) 0 (more F r lt) G) (v : Visited deps r k G T) where
@@ -89,15 +96,12 @@ module _ (deps : List ℕ) (r k : ℕ) (F G T : List ℕ) (lt : r < length F) (s
 
   mark-shut : (j : ℕ) → In T j → In F j ⊎ ShutAt deps T j 0
   mark-shut j h = ⊎-elim
-      (λ was. ⊎-elim
       (λ old. ⊎-elim
-      (λ first. inl first)
+      inl
       (λ e. inr (shut-kept deps G T j 0 (v .grown .kept) (subst (λ (x : ℕ). ShutAt deps G x 0) e (p .done))))
       (put-new F r lt j (omega arith) old))
-      (λ s. inr (shut-kept deps G T j 0 (v .grown .kept) s))
-      (p .grown .shut j was))
-      (λ s. inr s)
-      (v .grown .shut j h)
+      inr
+      (shut-then deps _ _ r k (more F r lt) G T (p .grown) (v .grown) j h)
 
   pub visit-more : Visited deps r k F T
   visit-more = record {
@@ -118,19 +122,10 @@ module _ (deps : List ℕ) (i q : ℕ) (F G T : List ℕ) (q<7 : q < 7) (p : Pas
   unfolding Shut ShutAt
   more-least C s w h = v .grown .least C s (p .grown .least C s w h) (s i h q (omega arith) q<7)
 
-  more-shut : (j : ℕ) → In T j → In F j ⊎ ShutAt deps T j 0
-  more-shut j h = ⊎-elim
-      (λ was. ⊎-elim (λ old. inl old) (λ s. inr (shut-kept deps G T j 0 (v .grown .kept) s)) (p .grown .shut j was))
-      (λ s. inr s)
-      (v .grown .shut j h)
-
   pub to-more : PassedTo deps i (q + 1) F T
   to-more = record {
-    grown = record { kept = λ x. omega (arith, v .grown .kept x, p .grown .kept x); least = more-least; shut = more-shut };
-    done = λ x lt. elim (ℕ-discrete x q) [
-      | yes e ↦ rw e (v .done)
-      | no ne ↦ omega (arith, p .done x (omega arith), v .grown .kept x)
-    ];
+    grown = record { kept = λ x. omega (arith, v .grown .kept x, p .grown .kept x); least = more-least; shut = shut-then deps _ _ q _ F G T (p .grown) (v .grown) };
+    done = below-more (λ x. getD deps (7 * i + x) 0 ≤ getD T x 0) q (λ x lt. omega (arith, p .done x lt, v .grown .kept x)) (v .done);
   }
 
 pub to-all : (deps : List ℕ) (i q : ℕ) (F G : List ℕ) → 7 ≤ q → PassedTo deps i q F G → Passed deps i 0 F G

@@ -1,16 +1,15 @@
 -- The heads as they are found and moved on, and that they decide what is written next.
-use mathlib.Core.Path.{_≡_, refl, sym, ap, _∙_, subst}
-use mathlib.Core.Bool.{Bool, true, false, _&&_}
+use mathlib.Core.Path.{_≡_, refl, sym, ap, subst}
+use mathlib.Core.Bool.{Bool, true, false}
 use mathlib.Core.List.{List}
 use Prim.Native.Nat.{ℕ, _+_, _*_, _/_, _%_, _≤_, _<_, max}
 use native.Mathlib.Decide.{ℕ-discrete}
 use native.Mathlib.Omega.{arith}
-use lib.Dec.{ltb, leb}
+use lib.Dec.{ltb}
 use lib.ListN.{getD, set, length}
 use lib.Seq.{getD-set-same, getD-set-other}
-use borrow.Author.Tests.{le-leb, leb-true, ltb-true, ltb-false}
-use Rattle.base.specs.Marks.{marked}
-use Rattle.base.proofs.Loops.{both-true, length-below, below-at}
+use borrow.Author.Count.{below-more}
+use borrow.Author.Tests.{ltb-true, ltb-false}
 use Rattle.leads.specs.Depends.{Valid, Leads, here}
 use Rattle.leads.specs.Frontier.{In, frontier}
 use Rattle.leads.specs.Search.{Start}
@@ -21,17 +20,16 @@ use Rattle.order.specs.Listed.{On}
 use Rattle.order.specs.Rule.{Ready, Lowest}
 use Rattle.order.specs.Heads.{blankHead, colOf, reachOf, FirstFrom, HeadAt, HeadsFrom, Held, Under, ReadyRow, NextRow, Decides, left}
 use Rattle.order.specs.declared.heads.Head.{Head}
-use Rattle.order.proofs.ListLaws.{clash, on-short}
+use Rattle.order.proofs.ListLaws.{clash}
 use Rattle.order.proofs.ReadyLaws.{some-ready}
+use Rattle.order.proofs.RuleLaws.{ready-led}
+use Rattle.order.proofs.LeftLaws.{left-length, on-left, left-slot, left-on}
 
 -- ---- found and moved on
 
 -- what holds from c up to d, and at d, holds up to d + 1
 pub up-more : {P : ℕ → Type 0} (c d : ℕ) → ((x : ℕ) → c ≤ x → x < d → P x) → P d → (x : ℕ) → c ≤ x → x < d + 1 → P x
-up-more {P} c d f p x le lt = elim (ℕ-discrete x d) [
-  | yes e ↦ subst P (sym e) p
-  | no ne ↦ f x le (omega arith)
-]
+up-more {P} c d f p x le lt = below-more (λ y. c ≤ y → P y) d (λ y small ge. f y ge small) (λ _. p) x lt le
 
 module _ (deps : List ℕ) (todo : List Bool) (v : Valid deps) (row c col : ℕ) (F : List ℕ) where
   pub moved-on : row < 7 → col < 32 → FirstFrom todo row c col → F ≡ frontier deps (32 * row + col) → HeadAt deps todo row c col F
@@ -64,13 +62,9 @@ HeadsTo deps todo c heads n = (row : ℕ) → row < n → HeadAt deps todo row (
 
 module _ (deps : List ℕ) (todo : List Bool) (c : ℕ → ℕ) (heads : List Head) where
   pub heads-more : (row : ℕ) (h : Head) → row < length heads → HeadsTo deps todo c heads row → HeadAt deps todo row (c row) (h .col) (h .reach .cols) → HeadsTo deps todo c (set heads row h) (row + 1)
-  heads-more row h small f p x lt = elim (ℕ-discrete x row) [
-    | yes e ↦
-        let is : getD (set heads row h) row blankHead ≡ h = getD-set-same heads row h blankHead small in
-        subst (λ (y : ℕ). HeadAt deps todo y (c y) (colOf (set heads row h) y) (reachOf (set heads row h) y)) (sym e)
-        (subst (λ (y : Head). HeadAt deps todo row (c row) (y .col) (y .reach .cols)) (sym is) p)
-    | no ne ↦ subst (λ (y : Head). HeadAt deps todo x (c x) (y .col) (y .reach .cols)) (sym (getD-set-other heads row x h blankHead ne)) (f x (omega arith))
-  ]
+  heads-more row h small f p = below-more (λ y. HeadAt deps todo y (c y) (colOf (set heads row h) y) (reachOf (set heads row h) y)) row
+      (λ x lt. subst (λ (y : Head). HeadAt deps todo x (c x) (y .col) (y .reach .cols)) (sym (getD-set-other heads row x h blankHead (λ e. absurd (omega arith)))) (f x lt))
+      (subst (λ (y : Head). HeadAt deps todo row (c row) (y .col) (y .reach .cols)) (sym (getD-set-same heads row h blankHead small)) p)
 
   pub heads-all : (n : ℕ) → 7 ≤ n → HeadsTo deps todo c heads n → HeadsFrom deps todo c heads
   heads-all n full f = record { each = λ row lt. f row (omega arith) }
@@ -94,31 +88,6 @@ decides-no n = record { yes = λ e. clash false e refl; no = λ e. n }
 
 pub decides-yes : {P : Type 0} → P → Decides P true
 decides-yes p = record { yes = λ e. p; no = λ e. clash true refl e }
-
--- ---- the marks at or past the heads
-
-module _ (todo : List Bool) (heads : List Head) where
-  abbrev isLeft : ℕ → Bool
-  isLeft k = marked todo k && leb (colOf heads (k / 32)) (k % 32)
-
-  pub left-length : length (left todo heads) ≡ 224
-  unfolding left
-  left-length = length-below 224 isLeft
-
-  left-at : (k : ℕ) → k < 224 → marked (left todo heads) k ≡ isLeft k
-  unfolding left
-  left-at k lt = below-at 224 isLeft k false lt
-
-  pub on-left : (k : ℕ) → k < 224 → On todo k → colOf heads (k / 32) ≤ k % 32 → On (left todo heads) k
-  on-left k lt on le = left-at k lt ∙ rw (on, le-leb (colOf heads (k / 32)) (k % 32) le)
-
-  pub left-slot : (k : ℕ) → On (left todo heads) k → k < 224
-  left-slot k on = omega (arith, on-short (left todo heads) k on, left-length)
-
-  pub left-on : (k : ℕ) → On (left todo heads) k → (On todo k) × (colOf heads (k / 32) ≤ k % 32)
-  left-on k on =
-      let w = both-true (marked todo k) (leb (colOf heads (k / 32)) (k % 32)) (sym (left-at k (left-slot k on)) ∙ on) in
-      (w .0, leb-true (colOf heads (k / 32)) (k % 32) (w .1))
 
 -- ---- what the heads decide
 
@@ -155,7 +124,7 @@ module _ {deps : List ℕ} {todo : List Bool} (v : Valid deps) {heads : List Hea
         subst (λ (F : List ℕ). colOf heads other < getD F other 0) (sym (held .each row hr .exact hc)) (rw (e, f) at (frontier-whole deps v (headOf heads row) (headOf heads other) (omega arith) l))
 
   -- the readiness of a head is decided by the heads alone
-  pub ready-slot : (row : ℕ) → row < 7 → ReadyRow heads row → Ready deps (left todo heads) (headOf heads row)
+  ready-slot : (row : ℕ) → row < 7 → ReadyRow heads row → Ready deps (left todo heads) (headOf heads row)
   ready-slot row hr rr = (
     head-on row hr (rr .some),
     λ k on l.
@@ -166,7 +135,7 @@ module _ {deps : List ℕ} {todo : List Bool} (v : Valid deps) {heads : List Hea
         leads-trans (w .2) (back .1),
   )
 
-  pub ready-row : (row : ℕ) → row < 7 → colOf heads row < 32 → Ready deps (left todo heads) (headOf heads row) → ReadyRow heads row
+  ready-row : (row : ℕ) → row < 7 → colOf heads row < 32 → Ready deps (left todo heads) (headOf heads row) → ReadyRow heads row
   ready-row row hr hc rd = record {
     some = hc;
     back = λ other ho u.
@@ -184,13 +153,12 @@ module _ {deps : List ℕ} {todo : List Bool} (v : Valid deps) {heads : List Hea
   mate-inside row k hr hc l = subst (λ (F : List ℕ). In F k) (sym (held .each row hr .exact hc)) (frontier-whole deps v (headOf heads row) k (omega arith) l)
 
   -- where a slot is ready, its row's head is
-  pub ready-head : (i : ℕ) → Ready deps (left todo heads) i → (i / 32 < 7) × (ReadyRow heads (i / 32))
+  ready-head : (i : ℕ) → Ready deps (left todo heads) i → (i / 32 < 7) × (ReadyRow heads (i / 32))
   ready-head i rd =
       let w = to-head i (rd .0) in
       let row = i / 32 in
       let hc : colOf heads row < 32 = omega (arith, w .1) in
-      let on = head-on row (w .0) hc in
-      (w .0, ready-row row (w .0) hc (on, λ k onk l. leads-trans (rd .1 k onk (leads-trans (w .2) l)) (w .2)))
+      (w .0, ready-row row (w .0) hc (ready-led (left todo heads) i (headOf heads row) rd (head-on row (w .0) hc) (w .2)))
 
   pub lowest-head : (row : ℕ) → row < 7 → NextRow heads row → Lowest deps (left todo heads) (headOf heads row)
   lowest-head row hr n = (

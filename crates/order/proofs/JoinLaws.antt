@@ -13,7 +13,7 @@ use Rattle.order.specs.Listed.{On, Has, Once, Precedes}
 use Rattle.order.specs.Paper.{Mates, Paper, ReadyAt, Beneath, Ties}
 use Rattle.order.specs.Rule.{Lowest, Before, Block, without}
 use Rattle.order.proofs.ListLaws.{clash, has-or, has-left, has-right, has-either, once-both, precedes-has, precedes-left, precedes-right, precedes-across, precedes-either, precedes-second, without-was, without-still}
-use Rattle.order.proofs.RuleLaws.{mates-back, mates-trans, block-only, block-all, block-once, block-precedes}
+use Rattle.order.proofs.RuleLaws.{mates-back, mates-trans, ready-led, block-only, block-all, block-once, block-precedes}
 
 -- a fact that is refuted for no marked slot is not refuted for all of them together
 not-none : (S : List Bool) (P : ℕ → Type 0) → ((x : ℕ) → On S x → (P x → ⊥) → ⊥) → (((x : ℕ) → On S x → P x) → ⊥) → ⊥
@@ -71,9 +71,7 @@ module _ (deps seq : List ℕ) (S : List Bool) (j : ℕ) (B L : List ℕ) (low :
 
   joined-after : (i x : ℕ) → On S i → On S x → Leads deps i x → (Leads deps x i → ⊥) → Precedes x i (B ++ L)
   joined-after i x oi ox l away = ⊎-elim
-      (λ h.
-      let m = block-only deps seq j b i h in
-      absurd (away (leads-trans (low .0 .1 x ox (leads-trans (m .1) l)) (m .1))))
+      (λ h. absurd (away (ready-led S j i (low .0) oi (block-only deps seq j b i h .1) .1 x ox l)))
       (λ n. ⊎-elim
       (λ h. precedes-across x i B L h (p .all i (without-still S B i oi n)))
       (λ k. precedes-right x i B L (p .after i x (without-still S B i oi n) (without-still S B x ox k) l away))

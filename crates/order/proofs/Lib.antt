@@ -1,11 +1,12 @@
 pub mod ListLaws
-pub mod ReadyLaws
-pub mod RuleLaws
+mod ReadyLaws
+mod RuleLaws
+mod BlockLaws
 pub mod OrderLaws
 mod JoinLaws
 mod PartLaws
 pub mod PaperLaws
-mod BlockLaws
-pub mod HeadLaws
+mod LeftLaws
+mod HeadLaws
 mod EntryLaws
-pub mod WriteLaws
+mod WriteLaws

@@ -29,15 +29,11 @@ fewer (false ∷ s) zero e = clash false e refl
 fewer (true ∷ s) (suc i) e = ap suc (fewer s i e)
 fewer (false ∷ s) (suc i) e = fewer s i e
 
-pub none-marked : (s : List Bool) → ((i : ℕ) → i < length s → getD s i false ≡ true → ⊥) → howMany s ≡ 0
+pub none-marked : (s : List Bool) → ((i : ℕ) → On s i → ⊥) → howMany s ≡ 0
 unfolding howMany
 none-marked [] h = refl
-none-marked (true ∷ s) h = absurd (h 0 (omega arith) refl)
-none-marked (false ∷ s) h = none-marked s (λ i lt e. h (suc i) (omega arith) e)
-
--- where none are marked, no slot is
-pub none-on : (s : List Bool) → howMany s ≡ 0 → (i : ℕ) → On s i → ⊥
-none-on s e i on = absurd (omega (arith, fewer s i on))
+none-marked (true ∷ s) h = absurd (h 0 refl)
+none-marked (false ∷ s) h = none-marked s (λ i. h (suc i))
 
 pub at-most : (s : List Bool) → howMany s ≤ length s
 unfolding howMany
@@ -50,29 +46,22 @@ on-short [] i e = clash false e refl
 on-short (x ∷ s) zero e = omega arith
 on-short (x ∷ s) (suc i) e = omega (arith, on-short s i e)
 
-pub off-same : (s : List Bool) (i : ℕ) → getD (set s i false) i false ≡ false
+off-same : (s : List Bool) (i : ℕ) → getD (set s i false) i false ≡ false
 off-same [] i = refl
 off-same (x ∷ s) zero = refl
 off-same (x ∷ s) (suc i) = off-same s i
 
-pub still-on : (s : List Bool) (k j : ℕ) → getD (set s k false) j false ≡ true → getD s j false ≡ true
-still-on s k j e = elim (ℕ-discrete j k) [
-  | yes same ↦ clash (getD (set s k false) k false) (subst (λ (x : ℕ). getD (set s k false) x false ≡ true) same e) (off-same s k)
-  | no other ↦ rw (getD-set-other s k j false false other) at e
-]
+-- what is marked after the mark of k is taken off is another, and was marked
+pub still-other : (s : List Bool) (k j : ℕ) → On (set s k false) j → j ≡ k → ⊥
+still-other s k j on e = clash (getD (set s k false) k false) (subst (On (set s k false)) e on) (off-same s k)
+
+pub still-on : (s : List Bool) (k j : ℕ) → On (set s k false) j → On s j
+still-on s k j on = rw (getD-set-other s k j false false (still-other s k j on)) at on
 
 -- ---- lists
 
-abbrev Full : List ℕ → Type 0
-Full [] = ⊥
-Full (k ∷ L) = Unit {0}
-
-has-full : {j : ℕ} {L : List ℕ} → Has j L → Full L
-has-full (first e) = tt
-has-full (later h) = tt
-
 pub has-none : (j : ℕ) → Has j [] → ⊥
-has-none j h = has-full h
+has-none j h = elim h [ ]
 
 pub has-cases : {A : Type 0} (j k : ℕ) (L : List ℕ) → Has j (k ∷ L) → (j ≡ k → A) → (Has j L → A) → A
 has-cases j k L (first e) f g = f e
@@ -144,13 +133,9 @@ pub precedes-cases : {A : Type 0} (i j k : ℕ) (L : List ℕ) → Precedes i j 
 precedes-cases i j k L (now-then e h) f g = f e h
 precedes-cases i j k L (both-later p) f g = g p
 
-precedes-full : {i j : ℕ} {L : List ℕ} → Precedes i j L → Full L
-precedes-full (now-then e h) = tt
-precedes-full (both-later p) = tt
-
 -- in an empty list none stands before another
 pub precedes-none : (i j : ℕ) → Precedes i j [] → ⊥
-precedes-none i j p = precedes-full p
+precedes-none i j p = elim p [ ]
 
 -- both are in the list
 pub precedes-has : (i j : ℕ) (L : List ℕ) → Precedes i j L → Has i L × Has j L
@@ -215,9 +200,7 @@ without-was S [] x on = (on, has-none x)
 without-was S (k ∷ B) x on =
     let w = without-was (set S k false) B x on in (
       still-on S k x (w .0),
-      λ h. has-cases x k B h
-          (λ e. clash (getD (set S k false) k false) (subst (λ (y : ℕ). On (set S k false) y) e (w .0)) (off-same S k))
-          (w .1),
+      λ h. has-cases x k B h (still-other S k x (w .0)) (w .1),
     )
 
 pub without-still : (S : List Bool) (B : List ℕ) (x : ℕ) → On S x → (Has x B → ⊥) → On (without S B) x

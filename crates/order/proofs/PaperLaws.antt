@@ -35,9 +35,9 @@ module _ {deps seq : List ℕ} where
   runs-ties (next {todo = S} j {B = B} {L = L} low b r) = joined-ties deps seq S j B L low b (runs-paper r) (runs-ties r)
 
 -- as many are written as are to be written
-pub paper-howmany : (deps seq : List ℕ) (todo : List Bool) (L : List ℕ) → Paper deps seq todo L → length L ≡ howMany todo
+paper-howmany : (deps seq : List ℕ) (todo : List Bool) (L : List ℕ) → Paper deps seq todo L → length L ≡ howMany todo
 paper-howmany deps seq todo L p =
-    let left : howMany (without todo L) ≡ 0 = none-marked (without todo L) (λ i lt on. let w = without-was todo L i on in w .1 (p .all i (w .0))) in
+    let left : howMany (without todo L) ≡ 0 = none-marked (without todo L) (λ i on. let w = without-was todo L i on in w .1 (p .all i (w .0))) in
     omega (arith, without-count todo L (p .once) (p .only))
 
 module _ (deps seq : List ℕ) (todo : List Bool) (v : Valid deps) (len : length todo ≡ 224) where

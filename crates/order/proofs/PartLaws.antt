@@ -15,8 +15,9 @@ use Rattle.order.specs.Rule.{Ready, Lowest, Before, Block, without, Runs
 use Rattle.order.specs.Order.{leadsTo}
 use Rattle.order.proofs.ListLaws.{clash, split, has-none, has-cases, has-or, has-right, has-left, has-either, once-head, once-parts, precedes-cases, precedes-has, precedes-left, precedes-right, precedes-across, precedes-second, precedes-one-way, without-length, without-was, without-still}
 use Rattle.order.proofs.ReadyLaws.{on-slot, leads-is, is-leads}
-use Rattle.order.proofs.RuleLaws.{mates-self, mates-back, mates-trans, ready-mate}
-use Rattle.order.proofs.OrderLaws.{ranked-from, ranked-block, some-lowest}
+use Rattle.order.proofs.RuleLaws.{mates-self, mates-back, mates-trans, ready-led}
+use Rattle.order.proofs.BlockLaws.{ranked-from, ranked-block}
+use Rattle.order.proofs.OrderLaws.{some-lowest}
 
 -- the first of the list, if any, is not of slot j's component
 abbrev Stops : List ℕ → ℕ → List ℕ → Type 0
@@ -77,7 +78,7 @@ module _ (deps : List ℕ) (v : Valid deps) where
         (λ apart.
         let later-on : Has j T = has-cases j h T (p .all j (low .0 .0)) (λ e. absurd (apart (subst (λ (x : ℕ). Mates deps x j) e mates-self))) (λ l. l) in
         let w = t .next h j (now-then refl later-on) apart (λ k on l away. absurd (away (low .0 .1 k on l))) in
-        absurd (low .1 (w .slot) (w .lowest j (low .0 .0) mates-self) (ready-mate S h (w .slot) first-ready (w .on) (w .mate))))
+        absurd (low .1 (w .slot) (w .lowest j (low .0 .0) mates-self) (ready-led S h (w .slot) first-ready (w .on) (w .mate .0))))
         (mates-or h j (on-slot S short h (p .only h (first refl))) (on-slot S short j (low .0 .0)))
 
 -- once the component has ended, none of it comes

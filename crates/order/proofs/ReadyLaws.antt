@@ -22,9 +22,6 @@ use Rattle.order.proofs.ListLaws.{clash, split, on-short}
 
 -- ---- truth values
 
-both-is : (a b : Bool) → a ≡ true → b ≡ true → (a && b) ≡ true
-both-is a b e f = rw (e, f)
-
 -- where a and b hold, c does
 abbrev Given : Bool → Bool → Bool → Type 0
 Given a b c = a ≡ true → b ≡ true → c ≡ true
@@ -69,10 +66,11 @@ module _ (deps : List ℕ) (v : Valid deps) where
   module _ (todo : List Bool) (short : length todo ≤ 224) where
     -- the test passes where slot j is ready
     pub ready-is : (j : ℕ) → Ready deps todo j → isReady deps todo j ≡ true
-    ready-is j r = both-is (marked todo j) (allBelow 224 (leadsBack deps todo j)) (r .0)
-        (all-each (leadsBack deps todo j) 224
+    ready-is j r =
+        let back = all-each (leadsBack deps todo j) 224
         (λ k lt. implies (marked todo k) (leadsTo deps j k) (leadsTo deps k j)
-        (λ on to. leads-is k j lt (r .1 k on (is-leads j k to)))))
+        (λ on to. leads-is k j lt (r .1 k on (is-leads j k to)))) in
+        rw (r .0, back)
 
     -- and where it passes, slot j is
     pub is-ready : (j : ℕ) → isReady deps todo j ≡ true → Ready deps todo j
@@ -87,8 +85,7 @@ module _ (deps : List ℕ) (v : Valid deps) where
 
     -- the test passes where slot k is to be written and in slot j's component
     pub mate-is : (j k : ℕ) → j < 224 → Mate deps todo j k → isMate deps todo j k ≡ true
-    mate-is j k h m = both-is (marked todo k) (leadsTo deps j k && leadsTo deps k j) (m .0)
-        (both-is (leadsTo deps j k) (leadsTo deps k j) (leads-is j k h (m .1)) (leads-is k j (on-slot todo short k (m .0)) (m .2)))
+    mate-is j k h m = rw (m .0, leads-is j k h (m .1), leads-is k j (on-slot todo short k (m .0)) (m .2))
 
     -- and where it passes, slot k is
     pub is-mate : (j k : ℕ) → isMate deps todo j k ≡ true → Mate deps todo j k
@@ -100,7 +97,7 @@ module _ (deps : List ℕ) (v : Valid deps) where
     ready-from : (n j : ℕ) → On todo j → sum (frontier deps j) 7 < n → (x : ℕ) × Ready deps todo x
     ready-from zero j on h = absurd (not-suc-le-zero h)
     ready-from (suc n) j on h = ⊎-elim
-        (λ e. (j, is-ready j (both-is (marked todo j) (allBelow 224 (leadsBack deps todo j)) on e)))
+        (λ e. (j, is-ready j (rw on e)))
         (λ e.
         let w = some-fails (leadsBack deps todo j) 224 e in
         let k = w .0 in

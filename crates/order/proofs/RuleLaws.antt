@@ -3,17 +3,17 @@ use mathlib.Core.Path.{_≡_, refl, sym, _∙_, subst}
 use mathlib.Core.Bool.{Bool, false}
 use mathlib.Core.List.{List}
 use mathlib.Core.Logic.{⊎-elim}
-use Prim.Native.Nat.{ℕ}
+use Prim.Native.Nat.{ℕ, _+_, _<_}
 use native.Mathlib.Decide.{ℕ-discrete, decLt}
 use native.Mathlib.Omega.{arith}
-use lib.ListN.{getD, set}
+use lib.ListN.{set, length}
 use lib.Seq.{getD-set-other}
-use Rattle.leads.specs.Depends.{here}
+use Rattle.leads.specs.Depends.{Leads, here}
 use Rattle.leads.proofs.PathLaws.{leads-trans}
-use Rattle.order.specs.Listed.{On, Has, first, later, Once, none, more, Precedes, now-then, both-later}
+use Rattle.order.specs.Listed.{On, howMany, Has, first, later, Once, none, more, Precedes, now-then, both-later}
 use Rattle.order.specs.Paper.{Mates}
-use Rattle.order.specs.Rule.{Mate, Ready, Lowest, Before, Block, over, then, Runs, done, next}
-use Rattle.order.proofs.ListLaws.{clash, off-same, still-on, has-none, has-cases}
+use Rattle.order.specs.Rule.{Mate, Ready, Lowest, Before, Block, over, then, without, Runs, done, next}
+use Rattle.order.proofs.ListLaws.{still-other, still-on, has-none, has-cases, at-has, without-count}
 
 -- ---- components
 
@@ -30,26 +30,28 @@ module _ {deps : List ℕ} where
   pub mates-trans : {i j k : ℕ} → Mates deps i j → Mates deps j k → Mates deps i k
   mates-trans m n = (leads-trans (m .0) (n .0), leads-trans (n .1) (m .1))
 
-  -- with a slot all of its component that are to be written are ready
-  pub ready-mate : (S : List Bool) (i x : ℕ) → Ready deps S i → On S x → Mates deps i x → Ready deps S x
-  ready-mate S i x r on m = (on, λ k ok l. leads-trans (r .1 k ok (leads-trans (m .0) l)) (m .0))
+  -- with a slot all to be written that it leads to are ready
+  pub ready-led : (S : List Bool) (i x : ℕ) → Ready deps S i → On S x → Leads deps i x → Ready deps S x
+  ready-led S i x r on l = (on, λ k ok m. leads-trans (r .1 k ok (leads-trans l m)) l)
 
 -- ---- what a block holds
 
 -- two slots of which each is before the other, or is it, are one
-pub before-both : (seq : List ℕ) (a b : ℕ) → Before seq a b → Before seq b a → a ≡ b
+before-both : (seq : List ℕ) (a b : ℕ) → Before seq a b → Before seq b a → a ≡ b
 before-both seq a b p q = ⊎-elim
     (λ lt. ⊎-elim (λ gt. absurd (omega arith)) (λ e. absurd (omega (arith, e .0))) q)
     (λ e. ⊎-elim (λ gt. absurd (omega (arith, e .0))) (λ f. omega (arith, e .1, f .1)) q)
     p
 
+-- the component after slot k of it is written
+module _ {deps : List ℕ} {j : ℕ} (S : List Bool) (k x : ℕ) where
+  pub mate-was : Mate deps (set S k false) j x → Mate deps S j x
+  mate-was m = (still-on S k x (m .0), m .1, m .2)
+
+  pub mate-still : (x ≡ k → ⊥) → Mate deps S j x → Mate deps (set S k false) j x
+  mate-still ne m = (getD-set-other S k x false false ne ∙ m .0, m .1, m .2)
+
 module _ (deps seq : List ℕ) (j : ℕ) where
-  mate-was : (S : List Bool) (k x : ℕ) → Mate deps (set S k false) j x → Mate deps S j x
-  mate-was S k x m = (still-on S k x (m .0), m .1, m .2)
-
-  mate-still : (S : List Bool) (k x : ℕ) → (x ≡ k → ⊥) → Mate deps S j x → Mate deps (set S k false) j x
-  mate-still S k x ne m = (getD-set-other S k x false false ne ∙ m .0, m .1, m .2)
-
   -- all in a block are of the component and to be written
   pub block-only : {S : List Bool} {B : List ℕ} → Block deps seq j S B → (x : ℕ) → Has x B → Mate deps S j x
   block-only (over f) x h = absurd (has-none x h)
@@ -68,7 +70,15 @@ module _ (deps seq : List ℕ) (j : ℕ) where
   -- no slot is in it twice
   pub block-once : {S : List Bool} {B : List ℕ} → Block deps seq j S B → Once B
   block-once (over f) = none
-  block-once (then {todo = S} k m f b) = more (λ h. clash (getD (set S k false) k false) (block-only b k h .0) (off-same S k)) (block-once b)
+  block-once (then {todo = S} k m f b) = more (λ h. still-other S k k (block-only b k h .0) refl) (block-once b)
+
+  -- the marks left after it are fewer by as many as it holds
+  pub block-count : {S : List Bool} {B : List ℕ} → Block deps seq j S B → howMany (without S B) + length B ≡ howMany S
+  block-count {S} {B} b = without-count S B (block-once b) (λ x h. block-only b x h .0)
+
+  -- and it holds slot j
+  pub block-some : {S : List Bool} {B : List ℕ} → Block deps seq j S B → On S j → 0 < length B
+  block-some {B = B} b on = omega (arith, at-has j B (block-all b j (on, here refl, here refl)) .1)
 
   -- of two of its slots, the one that is to be written first stands first
   pub block-precedes : {S : List Bool} {B : List ℕ} → Block deps seq j S B → (i x : ℕ) → Mate deps S j i → Mate deps S j x → Before seq i x → (i ≡ x → ⊥) → Precedes i x B

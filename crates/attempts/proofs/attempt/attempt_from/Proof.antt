@@ -1,7 +1,6 @@
 -- `attempts::attempt::attempt_from` meets its contract: step by step.
 use denote.Ref.{now}
-use mathlib.Core.Path.{_≡_, sym, _∙_}
-use mathlib.Core.Bool.{true, false}
+use mathlib.Core.Path.{sym, _∙_}
 use native.Mathlib.Omega.{arith}
 use borrow.Author.Needs.{needs}
 use Rattle.base.proofs.Tests.{passed, failed}

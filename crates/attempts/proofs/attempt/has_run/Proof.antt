@@ -1,6 +1,5 @@
 -- `attempts::attempt::has_run` meets its contract: in the table, and Executed.
 use mathlib.Core.Path.{sym, ap, _∙_}
-use mathlib.Core.Bool.{true, false}
 use borrow.Author.Needs.{needs}
 use Rattle.base.proofs.Tests.{passed, failed}
 use Rattle.slots.specs.Slot.{isExecuted}
