@@ -27,7 +27,7 @@ round-within : (deps F C : List ℕ) → Shut deps C → Within F C → Within (
 unfolding Shut ShutAt
 round-within deps F C s w = rows-at-most (round deps F) (λ q. getD C q 0) (round-length deps F)
     (λ q lt. rw (round-at deps F q lt)
-    (raised-at-most deps F q (getD C q 0) (w q) (λ j h. s j (omega (arith, h, w (j / 32))) q (omega arith) lt)))
+    (raised-at-most deps F q (getD C q 0) (w q) (λ j h. s j (omega (arith, h, w (j / 32))) q lt)))
 
 pub frontier-least : (deps : List ℕ) (i : ℕ) (C : List ℕ) → Shut deps C → In C i → Within (frontier deps i) C
 unfolding frontier
@@ -37,7 +37,7 @@ module _ (deps : List ℕ) (v : Valid deps) where
   -- ---- and shut
   pub frontier-shut : (i : ℕ) → i < 224 → Shut deps (frontier deps i)
   unfolding Shut ShutAt
-  frontier-shut i h j inside q le lt = fixed-dep deps (frontier deps i) (frontier-length deps v i) (frontier-fixed deps v i h) j q lt inside
+  frontier-shut i h j inside q lt = fixed-dep deps (frontier deps i) (frontier-length deps v i) (frontier-fixed deps v i h) j q lt inside
 
   -- ---- where a search may start
   pub start-none : (r : ℕ) → Start deps r 0 (replicate 7 0)
@@ -83,7 +83,7 @@ module _ (deps : List ℕ) (v : Valid deps) where
           (omega (arith, rw (at-r, at-c) at (frontier-own deps v i (omega arith))))
 
       closed : Shut deps G
-      closed j h = ⊎-elim (λ old. shut-kept deps F G j 0 (w .grown .kept) (s .shut j old)) (λ x. x) (w .grown .shut j h)
+      closed j h = ⊎-elim (λ old. shut-kept deps F G j (w .grown .kept) (s .shut j old)) (λ x. x) (w .grown .shut j h)
 
       holds : Within (frontier deps i) G
       holds = frontier-least deps i G closed (rw (at-r, at-c) (omega (arith, w .done)))

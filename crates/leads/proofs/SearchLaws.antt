@@ -75,30 +75,30 @@ pub visit-in : (deps : List ℕ) (r k : ℕ) (F : List ℕ) → k ≤ getD F r 0
 visit-in deps r k F h = record { grown = same deps r k F; done = h }
 
 -- shut stays shut as slots are added
-pub shut-kept : (deps F G : List ℕ) (j r : ℕ) → Within F G → ShutAt deps F j r → ShutAt deps G j r
+pub shut-kept : (deps F G : List ℕ) (j : ℕ) → Within F G → ShutAt deps F j → ShutAt deps G j
 unfolding ShutAt
-shut-kept deps F G j r w s q le lt = omega (arith, s q le lt, w q)
+shut-kept deps F G j w s q lt = omega (arith, s q lt, w q)
 
 -- of two steps the second keeps shut what the first has shut
-shut-then : (deps : List ℕ) (r k q n : ℕ) (F G T : List ℕ) → Grown deps r k F G → Grown deps q n G T → (j : ℕ) → In T j → In F j ⊎ ShutAt deps T j 0
+shut-then : (deps : List ℕ) (r k q n : ℕ) (F G T : List ℕ) → Grown deps r k F G → Grown deps q n G T → (j : ℕ) → In T j → In F j ⊎ ShutAt deps T j
 shut-then deps r k q n F G T p v j h = ⊎-elim
-    (λ was. ⊎-elim inl (λ s. inr (shut-kept deps G T j 0 (v .kept) s)) (p .shut j was))
+    (λ was. ⊎-elim inl (λ s. inr (shut-kept deps G T j (v .kept) s)) (p .shut j was))
     inr
     (v .shut j h)
 
 module _ (deps : List ℕ) (r k : ℕ) (F G T : List ℕ) (lt : r < length F) (small : k ≤ 32) (out : getD F r 0 < k)
-    (p : Passed deps (32 * r + getD F r 0) 0 (more F r lt) G) (v : Visited deps r k G T) where
+    (p : Passed deps (32 * r + getD F r 0) (more F r lt) G) (v : Visited deps r k G T) where
   mark-least : (C : List ℕ) → Shut deps C → Within F C → k ≤ getD C r 0 → Within T C
   mark-least C s w h =
       let at : (32 * r + getD F r 0) / 32 ≡ r = omega arith in
       let is : suc ((32 * r + getD F r 0) % 32) ≤ getD C r 0 = omega arith in
       v .grown .least C s (p .grown .least C s (put-within F r lt C w (omega arith)) (rw at is)) h
 
-  mark-shut : (j : ℕ) → In T j → In F j ⊎ ShutAt deps T j 0
+  mark-shut : (j : ℕ) → In T j → In F j ⊎ ShutAt deps T j
   mark-shut j h = ⊎-elim
       (λ old. ⊎-elim
       inl
-      (λ e. inr (shut-kept deps G T j 0 (v .grown .kept) (subst (λ (x : ℕ). ShutAt deps G x 0) e (p .done))))
+      (λ e. inr (shut-kept deps G T j (v .grown .kept) (subst (λ (x : ℕ). ShutAt deps G x) e (p .done))))
       (put-new F r lt j (omega arith) old))
       inr
       (shut-then deps _ _ r k (more F r lt) G T (p .grown) (v .grown) j h)
@@ -120,7 +120,7 @@ to-none deps i F = record { grown = same deps (i / 32) (suc (i % 32)) F; done = 
 module _ (deps : List ℕ) (i q : ℕ) (F G T : List ℕ) (q<7 : q < 7) (p : PassedTo deps i q F G) (v : Visited deps q (getD deps (7 * i + q) 0) G T) where
   more-least : (C : List ℕ) → Shut deps C → Within F C → suc (i % 32) ≤ getD C (i / 32) 0 → Within T C
   unfolding Shut ShutAt
-  more-least C s w h = v .grown .least C s (p .grown .least C s w h) (s i h q (omega arith) q<7)
+  more-least C s w h = v .grown .least C s (p .grown .least C s w h) (s i h q q<7)
 
   pub to-more : PassedTo deps i (q + 1) F T
   to-more = record {
@@ -128,6 +128,6 @@ module _ (deps : List ℕ) (i q : ℕ) (F G T : List ℕ) (q<7 : q < 7) (p : Pas
     done = below-more (λ x. getD deps (7 * i + x) 0 ≤ getD T x 0) q (λ x lt. omega (arith, p .done x lt, v .grown .kept x)) (v .done);
   }
 
-pub to-all : (deps : List ℕ) (i q : ℕ) (F G : List ℕ) → 7 ≤ q → PassedTo deps i q F G → Passed deps i 0 F G
+pub to-all : (deps : List ℕ) (i q : ℕ) (F G : List ℕ) → 7 ≤ q → PassedTo deps i q F G → Passed deps i F G
 unfolding ShutAt
-to-all deps i q F G full p = record { grown = p .grown; done = λ x le lt. p .done x (omega arith) }
+to-all deps i q F G full p = record { grown = p .grown; done = λ x lt. p .done x (omega arith) }

@@ -42,7 +42,7 @@ fn visit(deps: &[u8; 1568], seen: DepSet, row: usize, k: usize) -> DepSet
 fn rows(deps: &[u8; 1568], seen: DepSet, i: usize) -> DepSet
     requires { ⌜ Valid (now deps) ⌝ }
     requires { ⌜ i < 224 ⌝ }
-    ensures { λ r. ⌜ Passed (now (deps .entry)) i 0 (seen .cols) (r .cols) ⌝ }
+    ensures { λ r. ⌜ Passed (now (deps .entry)) i (seen .cols) (r .cols) ⌝ }
 {
     let mut out = seen;
     let mut row: usize = 0;
