@@ -12,15 +12,5 @@ pub(crate) fn of_attempt(table: Table, at: Place, entries: usize) -> u64
     if entries < 224 {
         return refusals::SHORT_ORDER;
     }
-    if !table.fits() {
-        return refusals::OUTSIDE_BOUNDS;
-    }
-    let config = table.config;
-    if config.n <= at.row {
-        return refusals::NO_REPLICA;
-    }
-    if 32 <= at.col {
-        return refusals::NO_COLUMN;
-    }
-    0
+    table.refusal(at)
 }

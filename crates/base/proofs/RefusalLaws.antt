@@ -1,8 +1,8 @@
 -- Laws of the first refusal of a list of tests: where it is none, and where it is one test's own.
-use mathlib.Core.Path.{_≡_, refl, _∙_}
+use mathlib.Core.Path.{_≡_, refl, sym, _∙_}
 use mathlib.Core.List.{List, [], _∷_, _++_}
 use mathlib.Core.Bool.{Bool, true, false}
-use Prim.Native.Nat.{ℕ, suc, _<_}
+use Prim.Native.Nat.{ℕ, zero, suc, _<_}
 use native.Mathlib.Omega.{arith}
 use Rattle.base.specs.Refusals.{firstRefusal}
 
@@ -46,6 +46,10 @@ passed-append ((ok, number) ∷ rest) b h = rw (h .0) (passed-append rest b (h .
 
 pub first-append-passed : (a b : List (Bool × ℕ)) → Numbered a → firstRefusal a ≡ 0 → firstRefusal (a ++ b) ≡ firstRefusal b
 first-append-passed a b n e = passed-append a b (first-passed a n e)
+
+pub append-refused : (a b : List (Bool × ℕ)) (k : ℕ) → k ≡ firstRefusal a → 0 < k → k ≡ firstRefusal (a ++ b)
+append-refused a b zero e l = absurd (omega arith)
+append-refused a b (suc k) e l = sym (first-append-refused a b k (sym e))
 
 -- ---- a test that fails after all before it pass
 

@@ -5,7 +5,7 @@ use Prim.Native.Nat.{ℕ, zero, suc, _<_, _≤_}
 use native.Mathlib.Omega.{arith}
 use borrow.Author.Tests.{ltb-true, leb-true}
 use Rattle.base.specs.Refusals.{firstRefusal, sequenceLimit}
-use Rattle.base.proofs.RefusalLaws.{first-passed, first-append-refused, first-append-passed}
+use Rattle.base.proofs.RefusalLaws.{first-passed, append-refused, first-append-passed}
 use Rattle.deps.specs.Sets.{setFits}
 use Rattle.deps.specs.Batches.{batchFits}
 use Rattle.table.specs.Table.{holds}
@@ -52,8 +52,7 @@ lead-led t at e =
 -- the head's refusal is the proposal's, and where there is none the contents decide
 pub head-refused : (t : Table) (p : Proposal) (k : ℕ) → k ≡ messageRefusal t (p .message) → 0 < k → k ≡ proposalRefusal t p
 unfolding messageRefusal proposalRefusal
-head-refused t p zero e l = absurd (omega arith)
-head-refused t p (suc k) e l = sym (first-append-refused (messageTests t (p .message)) (contentsTests t p) k (sym e))
+head-refused t p k e l = append-refused (messageTests t (p .message)) (contentsTests t p) k e l
 
 pub head-passed : (t : Table) (p : Proposal) → messageRefusal t (p .message) ≡ 0 → proposalRefusal t p ≡ firstRefusal (contentsTests t p)
 unfolding messageRefusal proposalRefusal

@@ -7,7 +7,7 @@ use Rattle.base.specs.Refusals.{firstRefusal, outsideBounds, noReplica, noColum
 use Rattle.deps.specs.Sets.{setFits}
 use Rattle.deps.specs.Batches.{batchFits}
 use Rattle.table.specs.Table.{holds}
-use Rattle.table.specs.Bounds.{tableFits}
+use Rattle.table.specs.Bounds.{tableFits, placeTests}
 use Rattle.table.specs.declared.place.Place.{Place}
 use Rattle.table.specs.declared.table.Table.{Table}
 use Rattle.outcomes.specs.declared.message.Message.{Message}
@@ -29,12 +29,7 @@ contentsTests t p =
     ∷ []
 
 abbrev pub leadTests : Table → Place → List (Bool × ℕ)
-leadTests t at =
-    (tableFits t, outsideBounds)
-    ∷ (ltb (at .row) (t .config .n), noReplica)
-    ∷ (ltb (at .col) 32, noColumn)
-    ∷ (holds t at, noSlot)
-    ∷ []
+leadTests t at = placeTests t at ++ ((holds t at, noSlot) ∷ [])
 
 unfoldable pub messageRefusal : Table → Message → ℕ
 messageRefusal t m = firstRefusal (messageTests t m)

@@ -53,15 +53,9 @@ pub fn of_proposal(table: Table, proposal: Proposal) -> u64
 pub fn of_lead(table: Table, at: Place) -> u64
     ensures { λ r. ⌜ r ≡ leadRefusal table at ⌝ }
 {
-    if !table.fits() {
-        return refusals::OUTSIDE_BOUNDS;
-    }
-    let config = table.config;
-    if config.n <= at.row {
-        return refusals::NO_REPLICA;
-    }
-    if 32 <= at.col {
-        return refusals::NO_COLUMN;
+    let number = table.refusal(at);
+    if 0 < number {
+        return number;
     }
     if !table.holds(at) {
         return refusals::NO_SLOT;

@@ -1,14 +1,16 @@
--- Refusal 1: a table within the bounds. A sequence's limit is that of its type.
-use mathlib.Core.List.{List}
+-- Refusal 1: a table within the bounds; 2 and 3 of a place in it. A sequence's limit is that of its type.
+use mathlib.Core.List.{List, [], _∷_}
 use mathlib.Core.Bool.{Bool, cond, not, _&&_, _||_}
 use lib.Dec.{ltb, leb}
 use lib.ListN.{getD}
 use Prim.Native.Nat.{ℕ, _/_, _%_}
 use Rattle.base.specs.Below.{allBelow}
 use Rattle.base.specs.Config.{configFits}
+use Rattle.base.specs.Refusals.{firstRefusal, outsideBounds, noReplica, noColumn}
 use Rattle.keys.specs.Columns.{keysFit}
 use Rattle.slots.specs.Slot.{slotFits}
 use Rattle.table.specs.Table.{lenOf, slotNo}
+use Rattle.table.specs.declared.place.Place.{Place}
 use Rattle.table.specs.declared.table.Table.{Table}
 
 -- columns 0..31 in the rows below n, none in the others
@@ -35,3 +37,14 @@ slotsFit t = allBelow 224 (heldFits t)
 unfoldable pub tableFits : Table → Bool
 tableFits t =
     configFits (t .config) && (rowsFit (t .config .n) (t .lens) (t .bars) && (slotsFit t && keysFit (t .config .n) (t .keys)))
+
+-- the table, then the place's row and column
+abbrev pub placeTests : Table → Place → List (Bool × ℕ)
+placeTests t at =
+    (tableFits t, outsideBounds)
+    ∷ (ltb (at .row) (t .config .n), noReplica)
+    ∷ (ltb (at .col) 32, noColumn)
+    ∷ []
+
+unfoldable pub placeRefusal : Table → Place → ℕ
+placeRefusal t at = firstRefusal (placeTests t at)

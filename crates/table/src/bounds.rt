@@ -1,7 +1,9 @@
-// Refusal 1: whether a table is within the bounds.
+// Refusal 1: whether a table is within the bounds; and 2 and 3 of a place in it.
 ghost use mathlib.Core.Path.{_≡_};
-ghost use Rattle.table.specs.Bounds.{rowFits, rowsFit, slotsFit, tableFits};
+ghost use Rattle.table.specs.Bounds.{rowFits, rowsFit, slotsFit, tableFits, placeRefusal};
+use super::place::Place;
 use super::table::Table;
+use base::refusals;
 
 impl Table {
     // The one test, for every entry.
@@ -22,6 +24,23 @@ impl Table {
         }
         let keys = self.keys;
         keys.fits(config.n)
+    }
+
+    // The first refusal of a place: 1 of the table, 2 of the row, 3 of the column; 0 for none.
+    pub fn refusal(self, at: Place) -> u64
+        ensures { λ r. ⌜ r ≡ placeRefusal self at ⌝ }
+    {
+        if !self.fits() {
+            return refusals::OUTSIDE_BOUNDS;
+        }
+        let config = self.config;
+        if config.n <= at.row {
+            return refusals::NO_REPLICA;
+        }
+        if 32 <= at.col {
+            return refusals::NO_COLUMN;
+        }
+        0
     }
 
     // Every slot that the table holds.

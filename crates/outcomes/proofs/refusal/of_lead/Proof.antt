@@ -1,53 +1,49 @@
--- `outcomes::refusal::of_lead` meets its contract: each test in its turn.
-use Rattle.base.proofs.Tests.{passed, failed}
-use Rattle.base.specs.Refusals.{firstRefusal}
-use Rattle.outcomes.specs.Refusal.{leadRefusal}
-use Prim.Native.Nat.{_-_}
-use borrow.Author.Tests.{lt-ltb, le-ltb}
+-- `outcomes::refusal::of_lead` meets its contract: the place's refusal, and then whether there is a slot.
+use mathlib.Core.Path.{_≡_, sym, _∙_}
+use mathlib.Core.List.{[], _∷_}
+use native.Mathlib.Omega.{arith}
 use borrow.Author.Needs.{needs}
+use Rattle.base.specs.Refusals.{firstRefusal, noSlot}
+use Rattle.base.proofs.Tests.{passed, failed}
+use Rattle.base.proofs.RefusalLaws.{append-refused, first-append-passed}
+use Rattle.table.specs.Bounds.{placeTests, placeRefusal}
+use Rattle.table.specs.Table.{holds}
+use Rattle.table.specs.declared.place.Place.{Place}
+use Rattle.table.specs.declared.table.Table.{Table}
+use Rattle.outcomes.specs.Refusal.{leadRefusal}
 use Rattle.outcomes.proofs.refusal.of_lead.Statement.{statement}
 use Rattle.outcomes.proofs.refusal.of_lead.Tie as tie
 
-fits-requires : tie.Need-fits-requires
-fits-requires c κs = search needs
+-- where the place is not refused, whether there is a slot decides
+placed : (t : Table) (at : Place) → placeRefusal t at ≡ 0 → leadRefusal t at ≡ firstRefusal ((holds t at, noSlot) ∷ [])
+unfolding placeRefusal leadRefusal
+placed t at e = first-append-passed (placeTests t at) ((holds t at, noSlot) ∷ []) (omega arith) e
+
+refusal-requires : tie.Need-refusal-requires
+refusal-requires c κs = search needs
 
 returns : tie.Need-returns
-unfolding leadRefusal firstRefusal
-returns c = simp (failed (c .before .fits2 .ensures) (c .if1 .taken))
-
-returns-2 : tie.Need-returns-2
-unfolding leadRefusal firstRefusal
-returns-2 c =
-    let a = c .before .before .before .before in
-    simp (passed (a .before .fits2 .ensures) (a .if1 .left), le-ltb _ _ (c .if2 .taken))
-
-returns-3 : tie.Need-returns-3
-unfolding leadRefusal firstRefusal
-returns-3 c =
-    let b = c .before .before in
-    let a = b .before .before .before .before in
-    simp (passed (a .before .fits2 .ensures) (a .if1 .left), lt-ltb _ _ (b .if2 .left), le-ltb _ _ (c .if3 .taken))
+unfolding placeRefusal leadRefusal
+returns c =
+    let a = c .before .before .args in
+    append-refused (placeTests (a .table) (a .at)) ((holds (a .table) (a .at), noSlot) ∷ []) _ (c .before .refusal .ensures) (c .if1 .taken)
 
 holds-requires : tie.Need-holds-requires
 holds-requires c κs = search needs
 
-returns-4 : tie.Need-returns-4
-unfolding leadRefusal firstRefusal
-returns-4 c =
-    let d = c .before .before in
-    let b = d .before .before in
-    let a = b .before .before .before .before in
-    simp (passed (a .before .fits2 .ensures) (a .if1 .left), lt-ltb _ _ (b .if2 .left), lt-ltb _ _ (d .if3 .left), failed (c .before .holds .ensures) (c .if4 .taken))
+returns-2 : tie.Need-returns-2
+unfolding firstRefusal
+returns-2 c =
+    let i = c .before .before in
+    let a = i .before .before .args in
+    sym (placed (a .table) (a .at) (sym (i .before .refusal .ensures) ∙ omega arith) ∙ simp (failed (c .before .holds .ensures) (c .if2 .taken)))
 
-returns-5 : tie.Need-returns-5
-unfolding leadRefusal firstRefusal
-returns-5 c =
-    let d = c .before .before in
-    let b = d .before .before in
-    let a = b .before .before .before .before in
-    simp (passed (a .before .fits2 .ensures) (a .if1 .left), lt-ltb _ _ (b .if2 .left), lt-ltb _ _ (d .if3 .left), passed (c .before .holds .ensures) (c .if4 .left))
+returns-3 : tie.Need-returns-3
+unfolding firstRefusal
+returns-3 c =
+    let i = c .before .before in
+    let a = i .before .before .args in
+    sym (placed (a .table) (a .at) (sym (i .before .refusal .ensures) ∙ omega arith) ∙ simp (passed (c .before .holds .ensures) (c .if2 .left)))
 
 pub of-lead-spec : {M : Type 1} → statement M
-of-lead-spec =
-    tie.close
-    (tie.spec fits-requires returns returns-2 returns-3 holds-requires returns-4 returns-5)
+of-lead-spec = tie.close (tie.spec refusal-requires returns holds-requires returns-2 returns-3)
