@@ -1,5 +1,5 @@
 -- What a host may rely on of an attempt on an image: what it writes reads as the table that the attempt gives, what it refuses it leaves, every length stays.
-use mathlib.Core.Path.{_≡_, refl, sym, ap, _∙_}
+use mathlib.Core.Path.{_≡_, refl, sym, _∙_}
 use mathlib.Core.List.{List}
 use mathlib.Core.Logic.{_↔_}
 use mathlib.Core.Bool.{Bool, true, false, cond, true≢false}
@@ -30,7 +30,7 @@ use Rattle.attempts.proofs.AttemptLaws.{answer-cases}
 use Rattle.attempts.proofs.RefusedLaws.{AttemptRefused, short-order, outside, no-row, no-column, some-refusal}
 use Rattle.attempts.specs.declared.attempt.Attempted.{Attempted}
 use Rattle.calls.specs.Calls.{short}
-use Rattle.attempting.specs.Attempting.{AttemptCalled, unchanged, settled, onTable, attemptLong, attemptCall}
+use Rattle.attempting.specs.Attempting.{AttemptCalled, unchanged, onTable, attemptLong, attemptCall}
 
 -- ---- an attempt keeps a table whole
 

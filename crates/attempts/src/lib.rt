@@ -1,5 +1,5 @@
 // An attempt to run a slot and all that it leads to.
-pub mod gather; // gather.rt: what an attempt reads of the table
-pub mod waiting; // waiting.rt: whether it may run, and what is to run
-pub mod refusal; // refusal.rt: when it is refused
+mod gather; // gather.rt: what an attempt reads of the table
+mod waiting; // waiting.rt: whether it may run, and what is to run
+mod refusal; // refusal.rt: when it is refused
 pub mod attempt; // attempt.rt: the attempt

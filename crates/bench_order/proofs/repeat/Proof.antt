@@ -1,21 +1,10 @@
-use mathlib.Core.Path.{_≡_, refl, ap, sym, _∙_}
-use mathlib.Core.List.{List, [], _∷_, _++_}
-use mathlib.Core.Bool.{Bool, true, false, cond, not, _&&_}
-use mathlib.Core.Logic.{⊎-elim}
-use Prim.Native.Nat.{ℕ, suc, _≤_, _<_, _-_, _+_, _*_, _/_, _%_}
-use native.Mathlib.Omega.{arith}
-use native.Mathlib.Numerals.{add-one}
-use lib.ListN.{length, getD, set, length-set}
-use lib.Dec.{ltb, leb, eqb}
-use borrow.Author.Tests.{lt-ltb, le-ltb, le-leb, lt-leb, eq-eqb, ne-eqb, not-true, not-false}
+-- `bench_order::repeat`: no more turns than attempts are asked for.
+use mathlib.Core.Path.{_≡_}
+use Prim.Native.Nat.{_≤_, _-_}
+use lib.ListN.{length}
 use borrow.Author.Needs.{needs}
 use Rattle.bench_order.proofs.repeat.Statement.{statement}
 use Rattle.bench_order.proofs.repeat.Tie as tie
-use Rattle.bench_order.proofs.repeat.Reads as reads
-use Rattle.bench_order.proofs.repeat.Lts as lts
-use Rattle.attempts.proofs.attempt.attempt.Reads as attempt-reads
-use Rattle.bench_order.proofs.asked.Reads as asked-reads
-use Rattle.bench_order.proofs.text.tried.Reads as tried-reads
 
 abbrev Inv-loop : tie.InvT-loop
 Inv-loop table times order₀ ran₀ i₀ order ran i = (i ≤ times) × (length order ≡ 224)

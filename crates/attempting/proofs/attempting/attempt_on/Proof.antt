@@ -1,8 +1,7 @@
 -- `attempting::attempting::attempt_on` meets its contract: lengths first, then refusal 8, then bytes that stand for nothing, then the attempt on the
 -- table that the image is.
 use denote.Ref.{now}
-use mathlib.Core.Path.{_≡_, ap, sym, _∙_}
-use Prim.Native.Nat.{ℕ}
+use mathlib.Core.Path.{ap, sym, _∙_}
 use lib.ListN.{length}
 use borrow.Author.Tests.{le-leb, lt-leb, eq-eqb, ne-eqb, not-true, not-false}
 use borrow.Author.Needs.{needs}

@@ -1,20 +1,8 @@
-use mathlib.Core.Path.{_≡_, refl, ap, sym, _∙_}
-use mathlib.Core.List.{List, [], _∷_, _++_}
-use mathlib.Core.Bool.{Bool, true, false, cond, not, _&&_}
-use mathlib.Core.Logic.{⊎-elim}
-use Prim.Native.Nat.{ℕ, suc, _≤_, _<_, _-_, _+_, _*_, _/_, _%_}
-use native.Mathlib.Omega.{arith}
-use native.Mathlib.Numerals.{add-one}
-use lib.ListN.{length, getD, set, length-set}
-use lib.Dec.{ltb, leb, eqb}
-use borrow.Author.Tests.{lt-ltb, le-ltb, le-leb, lt-leb, eq-eqb, ne-eqb, not-true, not-false}
+-- `bench_order::shapes::full`: every slot is in the array.
+use Prim.Native.Nat.{_≤_, _-_}
 use borrow.Author.Needs.{needs}
 use Rattle.bench_order.proofs.shapes.full.Statement.{statement}
 use Rattle.bench_order.proofs.shapes.full.Tie as tie
-use Rattle.bench_order.proofs.shapes.full.Reads as reads
-use Rattle.bench_order.proofs.shapes.full.Lts as lts
-use Rattle.bench_order.proofs.shapes.slot.Reads as slot-reads
-use Rattle.table.proofs.table.Table.empty.Reads as empty-reads
 
 abbrev Inv-loop : tie.InvT-loop
 Inv-loop shape table₀ i₀ table i = i ≤ 224
