@@ -2,19 +2,16 @@
  * standard output.
  *
  * A frame: its length, 4 bytes, then requests one after another. A request: which function, 1 byte (CALLS below);
- * its numbers, 8 bytes each; its slices, each a length of 4 bytes and the bytes; the length of out, 4 bytes.
+ * its numbers, 8 bytes each; its slices, each a length of 4 bytes and the bytes; the lengths of out and of ran, the
+ * number of slots run, 4 bytes each.
  * An answer: what the function returned, 8 bytes; then out and the bytes behind it, all FILL before the call; of an
- * attempt, whose out is the number of slots run, then the order list, which held the first slice before the call, and
- * the bytes behind it; of a function that works on a table, then the image after the call and the bytes behind it.
- * All numbers are low byte first, as on every machine that the archive runs on.
+ * attempt and a log event, which may run slots, then ran and the bytes behind it, FILL too, and the order list, which
+ * held the first slice before the call, and the bytes behind it; of a function that works on a table, then the image
+ * after the call and the bytes behind it. All numbers are low byte first, as on every machine that the archive runs on.
  *
  * One image is current: OPEN starts it afresh from FILL, the handlers go on with it. Their second slice is none of the
  * function's: where it has bytes, the call works on a copy, which they say how to spoil, and the current image stays.
  * They are the length that the copy is handed over with, 4 bytes, then changes, each a place, 4 bytes, and a byte.
- *
- * RAISE is none of the archive's functions: it sets the commit bar of a row in the current image. By the rules only log
- * events raise a bar, and these have no function yet; attempts need bars, so the comparison raises them by itself, here
- * and in the Rust alike.
  *
  * No header is used, so that nothing but the kit is asked for. */
 
@@ -51,16 +48,17 @@ extern word nj_exp_prepare(byte *image, word image_length, word peer, word row, 
 extern word nj_lead(byte *image, word image_length, word row, word column, byte *out, word out_length);
 extern word nj_attempt(byte *image, word image_length, word row, word column, byte *order, word order_length, byte *ran,
                        word ran_length);
+extern word nj_logged(byte *image, word image_length, word row, word column, word status, byte *order,
+                      word order_length, byte *ran, word ran_length, byte *out, word out_length);
 
 enum {
     UNION = 1, FAST_DECISION, RUST_CHOICE, PAPER_CHOICE,
-    OPEN, PRE_ACCEPT, ACCEPT, COMMIT_NOTICE, ACCEPT_REPLY, EXP_PREPARE, LEAD, ATTEMPT, RAISE, CALLS
+    OPEN, PRE_ACCEPT, ACCEPT, COMMIT_NOTICE, ACCEPT_REPLY, EXP_PREPARE, LEAD, ATTEMPT, LOGGED, CALLS
 };
-enum { FILL = 0xA5, BEHIND = 16, IMAGE = 33618, BARS = 11, FRAME = 1 << 22, MOST_NUMBERS = 7, MOST_SLICES = 2 };
-enum { ROWS = 7, DONE = 100 };
+enum { FILL = 0xA5, BEHIND = 16, IMAGE = 33618, FRAME = 1 << 22, MOST_NUMBERS = 7, MOST_SLICES = 2 };
 
-/* How many numbers each function takes; each takes two slices and out. */
-static const half NUMBERS[CALLS] = {0, 0, 5, 7, 7, 4, 4, 4, 4, 4, 4, 2, 2, 2};
+/* How many numbers each function takes; each takes two slices, out and ran. */
+static const half NUMBERS[CALLS] = {0, 0, 5, 7, 7, 4, 4, 4, 4, 4, 4, 2, 2, 3};
 
 struct slice {
     const byte *at;
@@ -72,6 +70,14 @@ struct request {
     word numbers[MOST_NUMBERS];
     struct slice slices[MOST_SLICES];
     word out_length;
+    word ran_length;
+};
+
+/* Where a call writes. What may run slots is lent ran and order. */
+struct room {
+    byte *out;
+    byte *ran;
+    byte *order;
 };
 
 /* An image as it is handed over: with another length too. */
@@ -138,7 +144,12 @@ static struct request take_request(const byte **at, const byte *end) {
         r.slices[i].at = take(at, end, r.slices[i].length);
     }
     r.out_length = take_half(at, end);
+    r.ran_length = take_half(at, end);
     return r;
+}
+
+static int may_run_slots(const struct request *r) {
+    return r->function == ATTEMPT || r->function == LOGGED;
 }
 
 /* The current image, or the copy that the request asks for. */
@@ -178,15 +189,10 @@ static word decide(const struct request *r, byte *out) {
     }
 }
 
-static word raise_bar(word row, word bar) {
-    if (row >= ROWS) stop();
-    current[BARS + row] = (byte)bar;
-    return DONE;
-}
-
-static word handle(const struct request *r, struct table t, byte *out, byte *order) {
+static word handle(const struct request *r, struct table t, struct room to) {
     const word *n = r->numbers;
     const struct slice *c = &r->slices[0];
+    byte *out = to.out;
     word length = r->out_length;
     switch (r->function) {
     case OPEN:
@@ -204,35 +210,42 @@ static word handle(const struct request *r, struct table t, byte *out, byte *ord
     case LEAD:
         return nj_lead(t.at, t.length, n[0], n[1], out, length);
     case ATTEMPT:
-        return nj_attempt(t.at, t.length, n[0], n[1], order, c->length, out, length);
+        return nj_attempt(t.at, t.length, n[0], n[1], to.order, c->length, to.ran, r->ran_length);
     default:
-        return raise_bar(n[0], n[1]);
+        return nj_logged(t.at, t.length, n[0], n[1], n[2], to.order, c->length, to.ran, r->ran_length, out, length);
     }
 }
 
 /* The room that an answer takes at most. */
 static word room_for(const struct request *r) {
-    word room = sizeof(word) + r->out_length + BEHIND + r->slices[0].length + BEHIND + sizeof current;
+    word room = sizeof(word) + r->out_length + r->ran_length + r->slices[0].length + 3 * BEHIND + sizeof current;
     if (room > FRAME) stop();
     return room;
+}
+
+/* What is to be written, FILL before the call; the bytes behind it too. Says where they end. */
+static byte *fill(byte *at, word length) {
+    memset(at, FILL, length + BEHIND);
+    return at + length + BEHIND;
 }
 
 /* Answers one request, and says where the next answer goes. */
 static byte *answer(const struct request *r, byte *to) {
     const struct slice *list = &r->slices[0];
-    byte *out = to + sizeof(word), *order = out + r->out_length + BEHIND, *end = order;
+    struct room room = {to + sizeof(word), 0, 0};
+    byte *end = fill(room.out, r->out_length);
     word code;
-    memset(out, FILL, r->out_length + BEHIND);
-    if (r->function == ATTEMPT) {
-        memcpy(order, list->at, list->length);
-        memset(order + list->length, FILL, BEHIND);
-        end += list->length + BEHIND;
+    if (may_run_slots(r)) {
+        room.ran = end;
+        room.order = fill(room.ran, r->ran_length);
+        end = fill(room.order, list->length);
+        memcpy(room.order, list->at, list->length);
     }
     if (r->function < OPEN) {
-        code = decide(r, out);
+        code = decide(r, room.out);
     } else {
         struct table t = table_for(r);
-        code = handle(r, t, out, order);
+        code = handle(r, t, room);
         memcpy(end, t.at, sizeof current);
         end += sizeof current;
     }

@@ -32,9 +32,12 @@ impl Answerer {
     pub fn answer(&mut self, request: &Request) -> Result<Answer, String> {
         let code = bytes::word(&self.next(WORD)?, 0);
         let out = self.next(request.out + BEHIND)?;
-        let order = request.list().map_or(Ok(vec![]), |list| self.next(list.len() + BEHIND))?;
+        let (ran, order) = match request.list() {
+            Some(list) => (self.next(request.ran + BEHIND)?, self.next(list.len() + BEHIND)?),
+            None => (vec![], vec![]),
+        };
         let image = if request.function.takes_table() { self.next(IMAGE + BEHIND)? } else { vec![] };
-        Ok(Answer { code, out, order, image })
+        Ok(Answer { code, out, ran, order, image })
     }
 
     fn next(&mut self, count: usize) -> Result<Vec<u8>, String> {

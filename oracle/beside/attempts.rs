@@ -1,121 +1,117 @@
 //! Runs with attempts, as far as the rules compare these: no empty batch is committed, and no committed slot altered or
-//! lowered. Slots are committed row by row from the lowest column on, bars rise behind them, and attempts are aimed by
-//! what the Rust's table has.
-use crate::draw;
+//! lowered. Slots are committed row by row from the lowest column on, log events raise the bars behind them, and attempts
+//! are aimed by what the Rust's table has.
+use crate::aim::{Aim, deps};
 use crate::random::Random;
-use crate::runs::{self, Plan, Run, Step};
+use crate::run::{self, ACCEPTING, COMMITTED, Run};
+use crate::{reach, runs};
 use summerset::drive::deps_of;
 use summerset::plain::{Contents, Event, Place, Slot, Status, Store, Table};
-use summerset::refusals::COLUMNS;
 
-/// What a slot waits for.
-#[derive(Clone, Copy)]
-enum Web {
-    Nothing,
-    /// The last slot of some rows: chains.
-    Behind,
-    /// The same column of the next row: a cycle through all rows.
-    Ring,
-    /// Columns about its own, slots among them that are still to come.
-    About,
-    /// Any slots that are there or to come.
-    Any,
-}
-
-const WEBS: [Web; 5] = [Web::Nothing, Web::Behind, Web::Ring, Web::About, Web::Any];
-
-/// How a run with attempts is drawn.
-pub struct Aim {
-    pub plan: Plan,
-    web: Web,
-    /// How many columns are filled.
-    width: usize,
-    /// Whether a slot may also wait for columns that are never filled.
-    is_wild: bool,
-    /// One step in so many is an attempt before the run is at its end.
-    patience: usize,
-}
-
-impl Aim {
-    /// Most are of few columns; one in fifty fills the whole table, and few attempts come before its end.
-    pub fn any(random: &mut Random) -> Aim {
-        let is_full = random.one_in(50);
-        let config = if is_full { draw::config_of(7, random) } else { draw::config(random) };
-        let width = if is_full { COLUMNS as usize } else { random.of(&[1, 2, 2, 3, 4, 6]) };
-        let slots = config.n * width;
-        let more = if is_full { slots / 2 } else { random.below(slots + 8) };
-        let length = 2 * slots + more + end(config.n);
-        let plan = Plan { config, length, is_far: random.one_in(8), oversteps: true, has_attempts: true };
-        let patience = if is_full { 80 } else { random.of(&[4, 12, 60]) };
-        Aim { plan, web: random.of(&WEBS), width, is_wild: random.one_in(4), patience }
+/// The next event, `left` events before the last: a slot is committed, a bar rises, any event of the handlers or log event,
+/// an attempt, of which there are fewer while no slot waits for one.
+pub fn next(run: &Run, aim: &Aim, left: usize, random: &mut Random) -> Event {
+    let is_at_end = left < aim.end();
+    let rising = rising(&run.table, aim, is_at_end);
+    if !rising.is_empty() && (is_at_end || random.one_in(aim.leisure)) {
+        return Event::Logged { at: random.of(&rising), status: COMMITTED };
     }
-}
-
-/// How many steps at the end of a run are left for bars and attempts.
-fn end(n: usize) -> usize {
-    2 * n + 2
-}
-
-/// The next step, `left` steps before the last: a slot is committed, a bar rises, any event of the handlers, an attempt.
-pub fn next(run: &Run, aim: &Aim, left: usize, random: &mut Random) -> Step {
-    let is_at_end = left < end(run.config.n);
-    let rising = rising(&run.table);
-    if !rising.is_empty() && (is_at_end || random.one_in(8)) {
-        return raise(random.of(&rising), is_at_end, random);
+    if random.one_in(2) && reach::might_run(&run.table) {
+        return leave(run, random);
     }
-    let event = if is_at_end || random.one_in(aim.patience) {
+    let waits = !waiting(&run.table, 1).is_empty() || random.one_in(4);
+    let event = if random.one_in(8) {
+        logged(run, random)
+    } else if is_at_end || waits && random.one_in(aim.patience) {
         attempt(run, random)
     } else if random.one_in(6) {
         within(aim, run.next(random))
     } else {
         commit(run, aim, random)
     };
-    Step::Event(kept(event, &run.table, random))
+    kept(event, &run.table, random)
+}
+
+/// A run of the list, whole.
+pub fn listed(random: &mut Random) -> Result<Run, String> {
+    let aim = Aim::listed(random);
+    run::whole(&aim.plan, random, |run, left, random| next(run, &aim, left, random))
 }
 
 /// One slot that waits for what never comes holds up all that lead to it, so most runs have none.
 fn within(aim: &Aim, mut event: Event) -> Event {
     if let Event::Store { deps, .. } = &mut event {
-        let most = if aim.is_wild { u64::MAX } else { aim.width as u64 };
-        deps.iter_mut().for_each(|number| *number = most.min(*number));
+        let most = |row: usize| if aim.is_wild { u64::MAX } else { aim.open(row) as u64 };
+        deps.iter_mut().enumerate().for_each(|(row, number)| *number = most(row).min(*number));
     }
     event
 }
 
-/// A row whose bar is below its height: below the first slot that is absent or not committed.
-#[derive(Clone, Copy)]
-struct Rising {
-    row: usize,
-    bar: usize,
-    height: usize,
+/// The slots at bars that rise when they are logged; of a row with a cork once that is committed, or at the end.
+fn rising(table: &Table, aim: &Aim, is_at_end: bool) -> Vec<Place> {
+    let is_time = |row: usize| is_at_end || !aim.has_cork(row) || height(&table.rows[row]) >= aim.width;
+    let rows = (0..table.rows.len()).filter(|row| is_time(*row));
+    let bars = rows.map(|row| Place { row: row as u64, col: table.bars[row] as u64 });
+    bars.filter(|at| run::raises(table, at)).collect()
 }
 
-fn rising(table: &Table) -> Vec<Rising> {
-    let rows = table.rows.iter().zip(&table.bars).enumerate();
-    let rows = rows.map(|(row, (slots, bar))| Rising { row, bar: *bar, height: height(slots) });
-    rows.filter(|r| r.bar < r.height).collect()
-}
-
+/// Up to the first slot that is absent or not committed.
 fn height(slots: &[Slot]) -> usize {
     slots.iter().take_while(|slot| slot.status >= Status::Committed).count()
 }
 
-/// Mostly as high as it can be.
-fn raise(of: Rising, is_at_end: bool, random: &mut Random) -> Step {
-    let Rising { row, bar, height } = of;
-    let any = bar + random.below(height - bar + 1);
-    Step::Raise { row, bar: if is_at_end { height } else { random.of(&[height, height, height, any]) } }
+/// Of any status, Committed in half: of a slot that is there, at a row's bar where one is there, behind a row's last slot,
+/// anywhere.
+fn logged(run: &Run, random: &mut Random) -> Event {
+    let Run { table, config, .. } = run;
+    let there: Vec<Place> = run::slots(table, |_| true).into_iter().map(|(at, _)| at).collect();
+    let is_at_bar = |at: &Place| at.col as usize == table.bars[at.row as usize];
+    let at_bars: Vec<Place> = there.iter().copied().filter(is_at_bar).collect();
+    let row = random.below(config.n);
+    let at = match random.below(10) {
+        0..=4 if !at_bars.is_empty() => random.of(&at_bars),
+        0..=7 if !there.is_empty() => random.of(&there),
+        8 => Place { row: row as u64, col: table.rows[row].len() as u64 },
+        _ => runs::place(config.n as u64, random),
+    };
+    let any = runs::log_status(random);
+    Event::Logged { at, status: random.of(&[COMMITTED, any]) }
 }
 
-/// Mostly of a slot that is committed, below its bar and has not run.
+/// What log events left, though it might run, another that raises no bar leaves too: Logged Committed below a bar, or at one
+/// whose slot is not committed. Where there is no such slot an ExpPrepare puts one there.
+fn leave(run: &Run, random: &mut Random) -> Event {
+    let Run { table, config, .. } = run;
+    let is_low = |row: &usize| table.rows[*row].get(table.bars[*row]).is_some_and(|s| s.status < Status::Committed);
+    let low: Vec<usize> = (0..config.n).filter(is_low).collect();
+    let row = if low.is_empty() { random.below(config.n) } else { random.of(&low) };
+    let at = Place { row: row as u64, col: table.bars[row] as u64 };
+    match random.below(4) {
+        0 => Event::Logged { at: Place { col: at.col.saturating_sub(1), ..at }, status: COMMITTED },
+        1 | 2 if low.is_empty() => Event::ExpPrepare { peer: 0, at, ballot: 0 },
+        _ => Event::Logged { at, status: COMMITTED },
+    }
+}
+
+fn of_status(table: &Table, wanted: Status) -> Vec<Place> {
+    run::slots(table, |slot| slot.status == wanted).into_iter().map(|(at, _)| at).collect()
+}
+
+/// The slots that are committed, have not run, and are so much below their bars.
+fn waiting(table: &Table, by: usize) -> Vec<Place> {
+    let is_below = |at: &Place| at.col as usize + by <= table.bars[at.row as usize];
+    of_status(table, Status::Committed).into_iter().filter(is_below).collect()
+}
+
+/// Mostly of a slot that is committed, below its bar and has not run, and of these one that is not its row's last below the
+/// bar: that one was attempted when the bar rose.
 fn attempt(run: &Run, random: &mut Random) -> Event {
     let Run { table, config, .. } = run;
-    let of = |wanted: Status| runs::slots(table, |slot| slot.status == wanted).into_iter().map(|(at, _)| at);
-    let (committed, executed): (Vec<_>, Vec<_>) = (of(Status::Committed).collect(), of(Status::Executed).collect());
-    let is_below = |at: &Place| (at.col as usize) < table.bars[at.row as usize];
-    let below: Vec<Place> = committed.iter().copied().filter(is_below).collect();
+    let (committed, executed) = (of_status(table, Status::Committed), of_status(table, Status::Executed));
+    let (inner, below) = (waiting(table, 2), waiting(table, 1));
     let row = random.below(config.n);
     let mut at = match random.below(20) {
+        0..=10 if !inner.is_empty() => random.of(&inner),
         0..=14 if !below.is_empty() => random.of(&below),
         0..=15 if !committed.is_empty() => random.of(&committed),
         0..=16 if !executed.is_empty() => random.of(&executed),
@@ -130,7 +126,8 @@ fn attempt(run: &Run, random: &mut Random) -> Event {
     Event::Attempt { at }
 }
 
-/// In a row that is not filled yet, mostly its first slot that is not committed.
+/// In a row that is not filled yet, mostly its first slot that is not committed. One that is Accepting is often committed by
+/// marks.
 fn commit(run: &Run, aim: &Aim, random: &mut Random) -> Event {
     let heights = run.table.rows.iter().map(|slots| height(slots)).enumerate();
     let open: Vec<_> = heights.filter(|(_, height)| *height < aim.width).collect();
@@ -139,37 +136,31 @@ fn commit(run: &Run, aim: &Aim, random: &mut Random) -> Event {
     }
     let (row, height) = random.of(&open);
     let past = if random.one_in(8) { random.below(3) } else { 0 };
-    let col = (height + past).min(COLUMNS as usize - 1);
-    let least = run.table.rows[row].get(col).map_or(0, |slot| slot.ballot);
+    let col = (height + past).min(aim.last_column());
+    let at = Place { row: row as u64, col: col as u64 };
+    let held = run.table.rows[row].get(col);
+    if let Some(slot) = held.filter(|slot| slot.status == Status::Accepting && random.one_in(2)) {
+        return mark(run, at, slot, random);
+    }
+    let commit = Store::CommitNotice;
     Event::Store {
-        what: if random.one_in(8) { Store::Accept } else { Store::CommitNotice },
+        what: random.of(&[Store::PreAccept, Store::Accept, commit, commit, commit, commit, commit, commit]),
         peer: random.below(run.config.n) as u64,
-        at: Place { row: row as u64, col: col as u64 },
-        ballot: random.of(&[0, 1, 2]).max(least),
+        at,
+        ballot: random.of(&[0, 1, 2]).max(held.map_or(0, |slot| slot.ballot)),
         seq: runs::sequence(random),
         deps: deps(&run.table, aim, (row, col), random),
         batch: runs::batch(random),
     }
 }
 
-/// 0 for nothing, or a column and one.
-fn deps(table: &Table, aim: &Aim, (row, col): (usize, usize), random: &mut Random) -> Vec<u64> {
-    let n = table.rows.len();
-    if aim.is_wild && random.one_in(12) {
-        return runs::deps(n as u64, random);
+/// What brings a slot that is Accepting nearer to a quorum: a lead, the own mark by a log event, a peer's.
+fn mark(run: &Run, at: Place, slot: &Slot, random: &mut Random) -> Event {
+    match slot.marks {
+        None => Event::Lead { at },
+        Some(marks) if marks >> run.config.own & 1 == 0 && random.one_in(2) => Event::Logged { at, status: ACCEPTING },
+        Some(_) => runs::accept_reply(run.config.n as u64, (at, slot), random),
     }
-    let web = if random.one_in(6) { random.of(&WEBS) } else { aim.web };
-    let mut number = |of: usize| match web {
-        Web::Nothing => 0,
-        Web::Behind if of == row || random.one_in(2) => 0,
-        Web::Behind => table.rows[of].len().min(aim.width),
-        Web::Ring if of != (row + 1) % n => 0,
-        Web::Ring => col + 1,
-        Web::About | Web::Any if random.one_in(2) => 0,
-        Web::About => (col + random.below(3)).min(aim.width),
-        Web::Any => 1 + random.below(aim.width),
-    };
-    (0..n).map(|of| number(of) as u64).collect()
 }
 
 /// The event, or one in its place that keeps to what the rules compare: nothing empty is accepted or committed, and what
@@ -204,6 +195,6 @@ pub fn are_comparable(before: &Table, after: &Table) -> bool {
         let now = &after.rows[at.row as usize][at.col as usize];
         now.status >= slot.status && now.contents == slot.contents
     };
-    runs::slots(before, is_committed).into_iter().all(stays)
-        && runs::slots(after, is_committed).iter().all(|(_, slot)| !slot.contents.batch.is_empty())
+    run::slots(before, is_committed).into_iter().all(stays)
+        && run::slots(after, is_committed).iter().all(|(_, slot)| !slot.contents.batch.is_empty())
 }

@@ -49,13 +49,11 @@ pub enum Function {
     ExpPrepare,
     Lead,
     Attempt,
-    /// None of the archive's: the comparison raises a row's commit bar in the image.
-    Raise,
+    Logged,
 }
 
 impl Function {
-    /// Those that are compared.
-    pub const ALL: [Function; 12] = [
+    pub const ALL: [Function; 13] = [
         Function::Union,
         Function::Fast,
         Function::RustChoice,
@@ -68,6 +66,7 @@ impl Function {
         Function::ExpPrepare,
         Function::Lead,
         Function::Attempt,
+        Function::Logged,
     ];
 
     pub fn name(self) -> &'static str {
@@ -84,7 +83,7 @@ impl Function {
             Function::ExpPrepare => "ExpPrepare",
             Function::Lead => "Lead",
             Function::Attempt => "Attempt",
-            Function::Raise => "a bar raised",
+            Function::Logged => "Logged",
         }
     }
 
@@ -106,17 +105,23 @@ impl Function {
         self as u8 >= Function::Open as u8
     }
 
-    /// The least lengths of its two slices and of `out`. An attempt's `out` is the number of slots run; its order list,
-    /// the first slice, may be short: that is refused by a number of its own.
-    pub fn lengths(self) -> [usize; 3] {
+    /// Whether it may run slots: it is lent an order list, its first slice, and `ran`, the number of slots run.
+    pub fn takes_list(self) -> bool {
+        matches!(self, Function::Attempt | Function::Logged)
+    }
+
+    /// The least lengths of its two slices, of `out` and of `ran`. An order list may be short: that is refused by a number
+    /// of its own.
+    pub fn lengths(self) -> [usize; 4] {
         match self {
-            Function::Union => [SET, SET, SET],
-            Function::Fast => [REPLIES.length, REPLICAS, WORD + SET],
-            Function::RustChoice | Function::PaperChoice => [REPLICAS, VOTES.length, CONTENTS],
-            Function::Open | Function::Raise => [0; 3],
-            Function::Attempt => [0, 0, WORD],
-            Function::PreAccept | Function::Accept | Function::CommitNotice => [CONTENTS, 0, OUT],
-            Function::AcceptReply | Function::ExpPrepare | Function::Lead => [0, 0, OUT],
+            Function::Union => [SET, SET, SET, 0],
+            Function::Fast => [REPLIES.length, REPLICAS, WORD + SET, 0],
+            Function::RustChoice | Function::PaperChoice => [REPLICAS, VOTES.length, CONTENTS, 0],
+            Function::Open => [0; 4],
+            Function::PreAccept | Function::Accept | Function::CommitNotice => [CONTENTS, 0, OUT, 0],
+            Function::AcceptReply | Function::ExpPrepare | Function::Lead => [0, 0, OUT, 0],
+            Function::Attempt => [0, 0, 0, WORD],
+            Function::Logged => [0, 0, OUT, WORD],
         }
     }
 }
@@ -128,9 +133,16 @@ pub struct Request {
     pub numbers: Vec<u64>,
     pub slices: [Vec<u8>; 2],
     pub out: usize,
+    pub ran: usize,
 }
 
 impl Request {
+    /// With as much room for what it writes as it has to have.
+    pub fn new(function: Function, numbers: Vec<u64>, slices: [Vec<u8>; 2]) -> Self {
+        let [_, _, out, ran] = function.lengths();
+        Request { function, numbers, slices, out, ran }
+    }
+
     /// The first four numbers, where they are within the bounds; of the union there are none.
     pub fn config(&self) -> Option<Config> {
         refusals::config(self.numbers.get(..4)?.try_into().ok()?)
@@ -138,14 +150,19 @@ impl Request {
 
     /// Where the slot that a handler is called for stands among all, 32 a row, where there is room for it.
     pub fn index(&self) -> Option<usize> {
-        let at = if matches!(self.function, Function::Lead | Function::Attempt) { 0 } else { 1 };
+        let at = if matches!(self.function, Function::Lead | Function::Attempt | Function::Logged) { 0 } else { 1 };
         let (row, col) = (*self.numbers.get(at)?, *self.numbers.get(at + 1)?);
         (row < REPLICAS as u64 && col < COLUMNS).then(|| (row * COLUMNS + col) as usize)
     }
 
-    /// The order list that an attempt is lent, as it is before.
+    /// The order list that what may run slots is lent, as it is before.
     pub fn list(&self) -> Option<&[u8]> {
-        (self.function == Function::Attempt).then_some(&self.slices[0])
+        self.function.takes_list().then_some(&self.slices[0])
+    }
+
+    /// The number of a log event's status.
+    pub fn log_status(&self) -> Option<u64> {
+        (self.function == Function::Logged).then(|| self.numbers[2])
     }
 
     pub fn put(&self, frame: &mut Vec<u8>) {
@@ -157,7 +174,9 @@ impl Request {
             frame.extend((slice.len() as u32).to_le_bytes());
             frame.extend(slice);
         }
-        frame.extend((self.out as u32).to_le_bytes());
+        for length in [self.out, self.ran] {
+            frame.extend((length as u32).to_le_bytes());
+        }
     }
 }
 
@@ -167,19 +186,20 @@ pub const NOT_YET: u64 = 102;
 pub const ALREADY: u64 = 103;
 pub const WAIT: u64 = 104;
 
-/// What a call returns, what it writes to `out` and, an attempt, to the order list, and the image after it, where it
-/// works on one.
+/// What a call returns, what it writes to `out` and, where it may run slots, to `ran` and the order list, and the image
+/// after it, where it works on one.
 #[derive(Clone, PartialEq, Eq, Debug)]
 pub struct Answer {
     pub code: u64,
     pub out: Vec<u8>,
+    pub ran: Vec<u8>,
     pub order: Vec<u8>,
     pub image: Vec<u8>,
 }
 
 impl Answer {
     pub fn of(code: u64, out: Vec<u8>) -> Self {
-        Answer { code, out, order: vec![], image: vec![] }
+        Answer { code, out, ran: vec![], order: vec![], image: vec![] }
     }
 
     pub fn unwritten(code: u64) -> Self {
@@ -190,11 +210,17 @@ impl Answer {
         self.code < DONE
     }
 
-    /// Of this request, with the bytes that are watched: what is not written of `out` and of the order list, and what is
+    /// How many slots were run: that many entries of the order list are theirs.
+    pub fn slots_run(&self) -> usize {
+        word(&self.ran, 0) as usize
+    }
+
+    /// Of this request, with the bytes that are watched: what is not written of `out`, `ran` and the order list, and what is
     /// behind, is as it was.
     pub fn with_watched(mut self, request: &Request) -> Self {
         self.out.resize(request.out + BEHIND, FILL);
         if let Some(list) = request.list() {
+            self.ran.resize(request.ran + BEHIND, FILL);
             self.order.extend(&list[self.order.len()..]);
             self.order.extend([FILL; BEHIND]);
         }

@@ -24,10 +24,10 @@ pub fn open(config: &Config) -> Request {
     call(Function::Open, numbers_of(config).to_vec(), vec![])
 }
 
-/// An event of a run as the call of its handler, with zeros wherever nothing stands.
-pub fn handler(event: &Event) -> Result<Request, String> {
+/// An event of a run as the call of its function, with zeros wherever nothing stands.
+pub fn handler(event: &Event) -> Request {
     let message = |peer: u64, at: &Place, ballot: u64| vec![peer, at.row, at.col, ballot];
-    Ok(match event {
+    match event {
         Event::Store { what, peer, at, ballot, seq, deps, batch } => {
             let function = match what {
                 Store::PreAccept => Function::PreAccept,
@@ -41,43 +41,41 @@ pub fn handler(event: &Event) -> Result<Request, String> {
         Event::ExpPrepare { peer, at, ballot } => call(Function::ExpPrepare, message(*peer, at, *ballot), vec![]),
         Event::Lead { at } => call(Function::Lead, vec![at.row, at.col], vec![]),
         Event::Attempt { at } => call(Function::Attempt, vec![at.row, at.col], vec![0; ORDER]),
-        Event::Logged { .. } => return Err(format!("no event of a run: {event:?}")),
-    })
-}
-
-/// The comparison's own: a row's commit bar is set to this.
-pub fn raise(row: usize, bar: usize) -> Request {
-    call(Function::Raise, vec![row as u64, bar as u64], vec![])
+        Event::Logged { at, status } => call(Function::Logged, vec![at.row, at.col, *status], vec![0; ORDER]),
+    }
 }
 
 fn call(function: Function, numbers: Vec<u64>, contents: Vec<u8>) -> Request {
-    Request { function, numbers, slices: [contents, vec![]], out: function.lengths()[2] }
+    Request::new(function, numbers, [contents, vec![]])
 }
 
-/// The code of what a handler did, which submits nothing and has nothing put back.
-pub fn code_of(did: &Stepped) -> Result<u64, String> {
-    if !did.submitted.is_empty() || !did.put_back.is_empty() {
-        return Err(format!("more than a handler does: {did:?}"));
+/// The code of what an event did. What the Rust submits is not looked at, since some of it has run before, nor what is put
+/// back of a note to self.
+pub fn code_of(event: &Event, did: &Stepped) -> Result<u64, String> {
+    if !does_no_more(event, did) {
+        return Err(format!("more than the event does: {event:?}, {did:?}"));
     }
+    let is_attempt = matches!(event, Event::Attempt { .. });
+    let is_message = !is_attempt && !matches!(event, Event::Logged { .. });
     match did.answer {
         Answered::Refused(number) => Ok(u64::from(number)),
         Answered::Done => Ok(DONE),
-        Answered::Ignored => Ok(IGNORED),
-        Answered::NotYet | Answered::Already => Err(format!("no answer of a handler: {:?}", did.answer)),
+        Answered::Ignored if is_message => Ok(IGNORED),
+        Answered::NotYet if is_attempt => Ok(NOT_YET),
+        Answered::Already if is_attempt => Ok(ALREADY),
+        answer => Err(format!("no answer of the event: {event:?}, {answer:?}")),
     }
 }
 
-/// The code of what an attempt did. What the Rust submits is not looked at: some of it has run before.
-pub fn code_of_attempt(did: &Stepped) -> Result<u64, String> {
-    if !did.output.is_empty() || !did.put_back.is_empty() {
-        return Err(format!("more than an attempt does: {did:?}"));
-    }
-    match did.answer {
-        Answered::Refused(number) => Ok(u64::from(number)),
-        Answered::Done => Ok(DONE),
-        Answered::NotYet => Ok(NOT_YET),
-        Answered::Already => Ok(ALREADY),
-        Answered::Ignored => Err("an attempt that is ignored".into()),
+/// Only attempts and log events submit something, and an attempt does nothing else; only of a note to self is something put
+/// back.
+fn does_no_more(event: &Event, did: &Stepped) -> bool {
+    let [is_silent, submits, is_undone] = [did.output.is_empty(), !did.submitted.is_empty(), !did.put_back.is_empty()];
+    match event {
+        Event::Attempt { .. } => is_silent && !is_undone,
+        Event::Logged { status: 1, .. } => !submits,
+        Event::Logged { .. } => (is_silent || !submits) && !is_undone,
+        _ => !submits && !is_undone,
     }
 }
 
@@ -144,7 +142,7 @@ impl Case {
                 (numbers, [acks.to_vec(), votes_bytes(&prepare.votes)])
             }
         };
-        Request { function, numbers, slices, out: function.lengths()[2] }
+        Request::new(function, numbers, slices)
     }
 
     /// What a call asks that is not refused: only what is marked, and requests up to the count.

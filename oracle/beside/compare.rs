@@ -76,7 +76,7 @@ impl Comparison {
 
     fn compare(&mut self, request: &Request, expected: &Result<Answer, String>, got: &Answer) {
         let function = request.function;
-        self.tally.add(function, self.is_exhaustive, expected.as_ref().map_or(got.code, |e| e.code));
+        self.tally.add(request, self.is_exhaustive, expected.as_ref().map_or(got.code, |e| e.code));
         let is_same = |e: &Answer| up_to_count(function, e) == up_to_count(function, got);
         if !expected.as_ref().is_ok_and(is_same) {
             self.tally.differ(function, || difference(request, expected, got));
@@ -96,13 +96,8 @@ impl Comparison {
             let expected = call.expected(&current);
             let settled = call.settled(got.clone(), &expected);
             is_same = expected.as_ref().is_ok_and(|e| *e == settled);
-            if function == Function::Raise {
-                // the comparison's own, and no call that is compared
-                current = if is_same { got.image } else { return Err("a bar that is not raised".into()) };
-                continue;
-            }
-            self.tally.add(function, false, expected.as_ref().map_or(got.code, |e| e.code));
-            self.tally.add_met(&call.met, &expected);
+            self.tally.add(&call.request, false, expected.as_ref().map_or(got.code, |e| e.code));
+            self.tally.add_met(&call.met, function, &expected);
             if !is_same {
                 self.tally.differ(function, || course.difference(number, &current, &expected, &settled));
             }

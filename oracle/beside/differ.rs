@@ -85,30 +85,37 @@ pub fn image_fields(expected: &[u8], got: &[u8]) -> Vec<String> {
     image.found
 }
 
-/// Of an attempt: how many slots ran, their entries by their numbers, and what is to stay.
+/// Of what may run slots: how many ran, their entries by their numbers, and what is to stay.
 fn order_fields(expected: &Answer, got: &Answer) -> Vec<String> {
-    let mut out = Differences { expected: &expected.out, got: &got.out, found: vec![] };
-    out.see("slots run", Form::Number, 0, WORD);
-    out.see("the bytes behind the number of slots run", Form::Bytes, WORD, out.got.len() - WORD);
-    let mut order = Differences { expected: &expected.order, got: &got.order, found: out.found };
-    let ran = bytes::word(&expected.out, 0) as usize;
-    order.see("entries by their numbers", Form::Bytes, 0, ran);
-    order.see("later entries", Form::Bytes, ran, ORDER - ran);
+    let mut ran = Differences { expected: &expected.ran, got: &got.ran, found: vec![] };
+    ran.see("slots run", Form::Number, 0, WORD);
+    ran.see("the bytes behind the number of slots run", Form::Bytes, WORD, ran.got.len() - WORD);
+    let mut order = Differences { expected: &expected.order, got: &got.order, found: ran.found };
+    let count = expected.slots_run();
+    order.see("entries by their numbers", Form::Bytes, 0, count);
+    order.see("later entries", Form::Bytes, count, ORDER - count);
     order.see("the bytes behind 224 entries", Form::Bytes, ORDER, order.got.len() - ORDER);
     order.found
 }
 
-/// Of `out`, of an order list and of the image. What is refused writes nothing to `out` and the list.
+/// Of bytes that are to stay.
+fn changed(name: &str, expected: &[u8], got: &[u8]) -> Vec<String> {
+    let mut bytes = Differences { expected, got, found: vec![] };
+    bytes.see(name, Form::Bytes, 0, expected.len());
+    bytes.found
+}
+
+/// Of `out`, of `ran` and an order list, and of the image. What is refused writes nothing to them; an attempt puts out
+/// nothing.
 pub fn fields(expected: &Answer, got: &Answer) -> Vec<String> {
     let mut out = Differences { expected: &expected.out, got: &got.out, found: vec![] };
-    let mut order = Differences { expected: &expected.order, got: &got.order, found: vec![] };
-    match (expected.is_refused(), expected.order.is_empty()) {
-        (false, true) if expected.out.len() >= OUT => out.see_records(),
-        (false, false) => out.found = order_fields(expected, got),
-        _ => {
-            out.see("out", Form::Bytes, 0, expected.out.len());
-            order.see("order", Form::Bytes, 0, expected.order.len());
-        }
+    match expected.is_refused() || expected.out.len() < OUT {
+        true => out.found = changed("out", out.expected, out.got),
+        false => out.see_records(),
     }
-    [out.found, order.found, image_fields(&expected.image, &got.image)].concat()
+    let order = match expected.is_refused() || expected.order.is_empty() {
+        true => [changed("ran", &expected.ran, &got.ran), changed("order", &expected.order, &got.order)].concat(),
+        false => order_fields(expected, got),
+    };
+    [out.found, order, image_fields(&expected.image, &got.image)].concat()
 }

@@ -1,7 +1,7 @@
 //! A fixed list of the Rust's answers, for crates/vectors.
 use crate::bytes::Function;
 use crate::random::Random;
-use crate::{draw, list, runs, rust_says};
+use crate::{attempts, draw, list, runs, rust_says};
 use summerset::protocols::epaxos::replica;
 
 /// What a part of the list asks: a C function, or the key columns or the handlers, called as Rattle functions.
@@ -9,16 +9,18 @@ enum Asked {
     Call(Function),
     Identify,
     Run,
+    RunWithAttempts,
 }
 
 /// How many cases of each.
-const PARTS: [(Asked, usize); 6] = [
+const PARTS: [(Asked, usize); 7] = [
     (Asked::Call(Function::Union), 500),
     (Asked::Call(Function::Fast), 1000),
     (Asked::Call(Function::RustChoice), 500),
     (Asked::Call(Function::PaperChoice), 250),
     (Asked::Identify, 500),
-    (Asked::Run, 500),
+    (Asked::Run, 400),
+    (Asked::RunWithAttempts, 80),
 ];
 
 impl Asked {
@@ -26,7 +28,7 @@ impl Asked {
         match self {
             Asked::Call(function) => function.name(),
             Asked::Identify => "identify after refreshes",
-            Asked::Run => "handlers in a run",
+            Asked::Run | Asked::RunWithAttempts => "handlers in a run",
         }
     }
 
@@ -40,9 +42,14 @@ impl Asked {
                 let (n, stores, batch) = draw::stores(random);
                 Ok(list::identify(n, &stores, &batch, &replica::identified(n, &stores, &batch)))
             }
-            Asked::Run => list::run(&runs::run(random)?),
+            Asked::Run => list::run(&runs::listed(random)?),
+            Asked::RunWithAttempts => list::run(&attempts::listed(random)?),
         }
     }
+}
+
+fn cases(parts: &[(Asked, usize)]) -> usize {
+    parts.iter().map(|(_, times)| times).sum()
 }
 
 /// Writes the list, and what the program has to print of it.
@@ -55,10 +62,11 @@ pub fn run(seed: u64, date: &str, list: &str, stdout: &str) -> Result<bool, Stri
         for _ in 0..*times {
             lines += &(asked.line(&mut random)? + "\n");
         }
-        printed += &format!("{} {times}\n", asked.name());
     }
-    let all: usize = PARTS.iter().map(|(_, times)| times).sum();
-    printed += &format!("{all} cases, 0 differences\n");
+    for parts in PARTS.chunk_by(|one, next| one.0.name() == next.0.name()) {
+        printed += &format!("{} {}\n", parts[0].0.name(), cases(parts));
+    }
+    printed += &format!("{} cases, 0 differences\n", cases(&PARTS));
     for (path, text) in [(list, lines), (stdout, printed)] {
         std::fs::write(path, text).map_err(|e| format!("cannot write {path}: {e}"))?;
     }

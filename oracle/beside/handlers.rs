@@ -1,13 +1,15 @@
-//! Runs of the handlers, and runs with attempts: the C functions go through the events that the Rust went through, some of
-//! them first on a spoiled copy of the table.
-use crate::attempts::{self, Aim};
-use crate::bytes::{self, Answer, BEHIND, DONE, FILL, Function, IMAGE, Request};
+//! Runs of the handlers, and runs with attempts, log events in both: the C functions go through the events that the Rust
+//! went through, some of them first on a spoiled copy of the table.
+use crate::aim::Aim;
+use crate::attempts;
+use crate::bytes::{Answer, BEHIND, DONE, FILL, Function, IMAGE, Request};
 use crate::image::Record;
 use crate::random::Random;
-use crate::runs::{Plan, Run, Step};
+use crate::reach::Met;
+use crate::run::{Happened, Plan, Run};
 use crate::spoil_image::Spoiling;
 use crate::{cases, differ, image, reach, refused, spoil, spoil_image, words};
-use summerset::plain::{Config, Event, Stepped, Table};
+use summerset::plain::{Config, Event, Table};
 
 /// The opening of a table, then the events in their order.
 pub struct Course {
@@ -22,11 +24,11 @@ pub struct Course {
 
 pub struct Call {
     /// None of the opening.
-    step: Option<Step>,
+    event: Option<Event>,
     pub request: Request,
     pub spoiling: Option<Spoiling>,
-    /// What an attempt met, by name.
-    pub met: Vec<&'static str>,
+    /// What an attempt or a log event met.
+    pub met: Met,
     /// By the Rust, where spoiling changes nothing.
     said: Result<Answer, String>,
 }
@@ -34,7 +36,7 @@ pub struct Call {
 /// A run of the handlers.
 pub fn draw(random: &mut Random) -> Result<Course, String> {
     let plan = Plan::any(random);
-    course(&plan, random, |run, _, random| Step::Event(run.next(random)))
+    course(&plan, random, |run, _, random| run.next(random))
 }
 
 /// A run with attempts.
@@ -43,26 +45,24 @@ pub fn draw_with_attempts(random: &mut Random) -> Result<Course, String> {
     course(&aim.plan, random, |run, left, random| attempts::next(run, &aim, left, random))
 }
 
-/// Of steps that are drawn one by one, each with how many there are after it.
-fn course(plan: &Plan, random: &mut Random, next: impl Fn(&Run, usize, &mut Random) -> Step) -> Result<Course, String> {
+/// Of events that are drawn one by one, each with how many there are after it.
+fn course(
+    plan: &Plan,
+    random: &mut Random,
+    next: impl Fn(&Run, usize, &mut Random) -> Event,
+) -> Result<Course, String> {
     let mut run = Run::new(plan);
     let image = image::of(&plan.config, &run.table);
     let Plan { config, has_attempts, .. } = *plan;
     let mut course = Course { config, has_attempts, calls: vec![], image, records: [0; 7] };
     course.push(None, cases::open(&plan.config), random, opened);
     for left in (0..plan.length).rev() {
-        let goes_on = match next(&run, left, random) {
-            Step::Event(event) => course.take(&mut run, event, random)?,
-            Step::Raise { row, bar } => {
-                course.raise(&mut run, row, bar);
-                true
-            }
-        };
-        if !goes_on {
+        let event = next(&run, left, random);
+        if !course.take(&mut run, event, random) {
             break;
         }
     }
-    for record in run.events.iter().flat_map(|(_, did)| &did.output).flat_map(Record::of) {
+    for record in run.events.iter().flat_map(|happened| &happened.did.output).flat_map(Record::of) {
         course.records[usize::from(record.what)] += 1;
     }
     Ok(course)
@@ -75,81 +75,58 @@ fn opened(request: &Request) -> Result<Answer, String> {
     Ok(Answer { image: image::of(&config, &empty), ..Answer::unwritten(DONE) })
 }
 
-/// What the Rust did, as the C function of the event answers it.
-fn answer(event: &Event, did: &Stepped, before: &[u8], after: Vec<u8>) -> Result<Answer, String> {
-    if let Event::Attempt { .. } = event {
-        return attempted(did, before, after);
+/// What the Rust did, as the C function of the event answers it. In which order slots run is not the Rust's, so they stand
+/// by their numbers here.
+fn answer(happened: &Happened, function: Function, image: Vec<u8>) -> Result<Answer, String> {
+    let Happened { event, did, run } = happened;
+    let [_, _, out, _] = function.lengths();
+    let mut answer = Answer { image, ..Answer::unwritten(cases::code_of(event, did)?) };
+    if !answer.is_refused() && out > 0 {
+        answer.out = image::out_of(&did.output)?;
     }
-    let code = cases::code_of(did)?;
-    let out = if code < DONE { vec![] } else { image::out_of(&did.output)? };
-    Ok(Answer { image: after, ..Answer::of(code, out) })
-}
-
-/// The entries are those of the slots that stand run now and did not before, whatever the Rust submitted; in which order
-/// they run is not the Rust's, so they stand by their numbers here.
-fn attempted(did: &Stepped, before: &[u8], after: Vec<u8>) -> Result<Answer, String> {
-    let code = cases::code_of_attempt(did)?;
-    if code < DONE {
-        return Ok(Answer { image: after, ..Answer::unwritten(code) });
+    if !answer.is_refused() && function.takes_list() {
+        answer.order = run.iter().map(image::entry).collect();
+        answer.ran = (run.len() as u64).to_le_bytes().to_vec();
     }
-    let order = image::run_between(before, &after);
-    let ran = (order.len() as u64).to_le_bytes();
-    Ok(Answer { order, image: after, ..Answer::of(code, ran.to_vec()) })
+    Ok(answer)
 }
 
 impl Course {
     /// Takes the Rust through an event, and says whether the run goes on: it ends where the Rust panics. One event in three
     /// has litter where nothing is to be read.
-    fn take(&mut self, run: &mut Run, event: Event, random: &mut Random) -> Result<bool, String> {
-        let said = run.take(&event).and_then(|did| {
-            let after = image::of(&self.config, &run.table);
-            answer(&event, &did, &self.image, after)
-        });
-        let mut request = cases::handler(&event)?;
+    fn take(&mut self, run: &mut Run, event: Event, random: &mut Random) -> bool {
+        let mut request = cases::handler(&event);
+        let taken = run.take(&event);
+        let said = taken.and_then(|did| answer(&did, request.function, image::of(&self.config, &run.table)));
         if random.one_in(3) {
             spoil::litter_handler(&mut request, random);
         }
-        if let Event::Attempt { .. } = event {
+        if request.list().is_some() {
             spoil::fill(&mut request.slices[0], random);
         }
-        let met = reach::names(&event, &run.before, &said);
-        self.push(Some(Step::Event(event)), request, random, |_| said.clone());
+        let met = said.as_ref().map_or_else(|_| Met::default(), |answer| reach::met(run, answer.code));
+        self.push(Some(event), request, random, |_| said.clone());
         if let Some(call) = self.calls.last_mut() {
             call.met = met;
         }
-        Ok(said.map(|answer| self.image = answer.image).is_ok())
-    }
-
-    /// Raises a bar on both sides, since the log events, which do so by the rules, have no C function yet. No call is
-    /// spoiled before it.
-    fn raise(&mut self, run: &mut Run, row: usize, bar: usize) {
-        run.raise(row, bar);
-        self.image = image::of(&self.config, &run.table);
-        let said = Ok(Answer { image: self.image.clone(), ..Answer::unwritten(DONE) });
-        let (step, request) = (Some(Step::Raise { row, bar }), cases::raise(row, bar));
-        self.calls.push(Call { step, request, spoiling: None, met: vec![], said });
+        said.map(|answer| self.image = answer.image).is_ok()
     }
 
     /// One call in four is made spoiled before.
     fn push(
         &mut self,
-        step: Option<Step>,
+        event: Option<Event>,
         request: Request,
         random: &mut Random,
         says: impl Fn(&Request) -> Result<Answer, String>,
     ) {
         if random.one_in(4) {
             let (request, spoiling) = spoil_image::spoiled(&request, &self.image, random);
-            let said = says(&request);
-            self.calls.push(Call { step: step.clone(), request, spoiling: Some(spoiling), met: vec![], said });
+            let (spoiling, said) = (Some(spoiling), says(&request));
+            self.calls.push(Call { event: event.clone(), request, spoiling, met: Met::default(), said });
         }
         let said = says(&request);
-        self.calls.push(Call { step, request, spoiling: None, met: vec![], said });
-    }
-
-    /// How many of its calls are: all but those that raise a bar.
-    pub fn compared(&self) -> usize {
-        self.calls.iter().filter(|call| call.request.function != Function::Raise).count()
+        self.calls.push(Call { event, request, spoiling: None, met: Met::default(), said });
     }
 
     /// How many of its calls are.
@@ -162,13 +139,13 @@ impl Course {
         let call = &self.calls[number];
         let mut lines = vec![format!("{} in a run", call.request.function.name()), words::config(&self.config)];
         let before = self.calls[..number].iter().filter(|c| c.spoiling.is_none()).chain([call]);
-        let steps = before.filter_map(|c| c.step.as_ref()).enumerate();
-        lines.extend(steps.map(|(i, step)| format!("{:<10}{}", i + 1, words::step(step))));
+        let events = before.filter_map(|c| c.event.as_ref()).enumerate();
+        lines.extend(events.map(|(i, event)| format!("{:<10}{}", i + 1, words::event(event))));
         lines.extend(call.spoiling.iter().map(|s| format!("spoiled   {}", s.words(current))));
         lines.push(format!("numbers   {:?}", call.request.numbers));
         let name = call.request.list().map_or("contents", |_| "order");
         lines.push(format!("{name:<10}{}", words::hex(&call.request.slices[0])));
-        lines.push(format!("out       {} bytes", call.request.out));
+        lines.push(format!("out       {} bytes, ran {}", call.request.out, call.request.ran));
         match expected {
             Err(said) => lines.push(format!("expected  {said}")),
             Ok(expected) => {
@@ -208,13 +185,12 @@ impl Call {
         answer
     }
 
-    /// Without what is nobody's, where the call is not refused and may have written it, and with an attempt's entries by
-    /// their numbers, as many as are expected.
+    /// Without what is nobody's, where the call is not refused and may have written it, and with the entries of an order list
+    /// by their numbers, as many as are expected.
     pub fn settled(&self, mut answer: Answer, expected: &Result<Answer, String>) -> Answer {
         if let Some(expected) = expected.as_ref().ok().filter(|e| !e.is_refused()) {
             if self.request.list().is_some() {
-                let ran = bytes::word(&expected.out, 0) as usize;
-                answer.order[..ran].sort();
+                answer.order[..expected.slots_run()].sort();
             }
             image::clear_past_counts(&mut answer.out, &mut answer.image);
             if self.spoiling.is_some() {

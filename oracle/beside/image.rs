@@ -89,6 +89,11 @@ pub fn place(index: usize) -> SlotAt {
     (index / COLUMNS as usize, index % COLUMNS as usize)
 }
 
+/// The index of a slot, which is its entry in an order list.
+pub fn entry(&(row, col): &SlotAt) -> u8 {
+    (row * COLUMNS as usize + col) as u8
+}
+
 /// Whether its row is as long as that.
 pub fn is_held(image: &[u8], index: usize) -> bool {
     let (row, col) = place(index);
@@ -115,7 +120,7 @@ pub fn of(config: &Config, table: &Table) -> Vec<u8> {
         image[LENGTHS + row] = slots.len() as u8;
         image[BARS + row] = *bar as u8;
         for (col, slot) in slots.iter().enumerate() {
-            bytes::put(&mut image, slot_at(row * COLUMNS as usize + col), &slot_bytes(slot));
+            bytes::put(&mut image, slot_at(usize::from(entry(&(row, col)))), &slot_bytes(slot));
         }
     }
     for (key, set) in &table.keys {
@@ -124,14 +129,7 @@ pub fn of(config: &Config, table: &Table) -> Vec<u8> {
     image
 }
 
-/// The entries of the slots that stand run in the second image and not in the first, in rising order.
-pub fn run_between(before: &[u8], after: &[u8]) -> Vec<u8> {
-    let has_run = |image: &[u8], index: usize| image[slot_at(index) + STATUS] == Status::Executed as u8;
-    let entries = 0..ROOM as u8;
-    entries.filter(|e| has_run(after, usize::from(*e)) && !has_run(before, usize::from(*e))).collect()
-}
-
-/// What a handler hands on, in one form for all kinds.
+/// What a handler or a log event hands on, in one form for all kinds.
 pub struct Record<'a> {
     pub what: u8,
     pub to: usize,
@@ -147,10 +145,15 @@ impl Record<'_> {
         let (what, to, asked, slot, ballot, status, contents) = match output {
             Output::Log { status, slot, ballot, contents } => (1, 0, 0, slot, ballot, *status, contents),
             Output::CommitNotice { slot, ballot, contents } => (2, 0, 0, slot, ballot, Status::Committed, contents),
+            Output::PreAcceptReply { to, slot, ballot, status, contents } => {
+                (3, *to, 0, slot, ballot, *status, contents)
+            }
+            Output::AcceptReply { to, slot, ballot, status, contents } => (4, *to, 0, slot, ballot, *status, contents),
             Output::ExpPrepareReply { to, slot, new_ballot, ballot, status, contents } => {
                 (5, *to, *new_ballot, slot, ballot, *status, contents)
             }
-            _ => return Err(format!("no record of a handler: {output:?}")),
+            Output::NoteToSelf { slot, ballot, status, contents } => (6, 0, 0, slot, ballot, *status, contents),
+            Output::Beyond(what) => return Err(format!("no record: {what}")),
         };
         Ok(Record { what, to, asked, slot: *slot, ballot: *ballot, status, contents })
     }

@@ -1,8 +1,8 @@
 //! A line of a list: a question in decimal numbers, then its answer.
 use crate::bytes::{self, Answer, DONE, SET, WORD};
 use crate::cases::{Case, code_of, numbers_of};
-use crate::image::Record;
-use crate::runs::Run;
+use crate::image::{self, Record};
+use crate::run::{Happened, Run};
 use summerset::plain::{Contents, Deps, Event, Kind, Output, Request, Slot, SlotAt, Table};
 
 /// What each line holds, for its reader.
@@ -17,14 +17,17 @@ Written by oracle/freeze, and not by hand. One case a line, in decimal numbers; 
 5 identify: n; how many refreshes of key columns that were empty, each: row, column, batch; the batch to identify;
   the code, the set.
 6 handlers in a run: n own simple super; how many events on a table that was empty, each: tag (1 PreAccept, 2 Accept,
-  3 CommitNotice, 4 AcceptReply, 5 ExpPrepare, 8 Lead), for 1 to 3 peer, row, column, ballot, sequence, set of n rows,
-  batch, for 4 and 5 peer, row, column, ballot, for 8 row, column; then what it did: the code, how many records, each:
-  what (1 log, 2 CommitNotice to all, 5 ExpPrepareReply), the peer it goes to and the ballot it was asked with (0 where
-  none), row, column, ballot, status, sequence, set, batch; after the last event the table: per row its length and bar,
-  each slot: ballot, status, sequence, set, batch, source (0 none, or a peer and one), led, marks (a bit a replica);
-  how many keys have columns, each: key, set.
+  3 CommitNotice, 4 AcceptReply, 5 ExpPrepare, 6 Logged, 7 Attempt, 8 Lead), for 1 to 3 peer, row, column, ballot,
+  sequence, set of n rows, batch, for 4 and 5 peer, row, column, ballot, for 6 row, column, status, for 7 and 8 row,
+  column; then what it did: the code, how many records, each: what (1 log, 2 CommitNotice to all, 3 PreAcceptReply,
+  4 AcceptReply, 5 ExpPrepareReply, 6 a note to self), the peer it goes to and the ballot it was asked with (0 where
+  none), row, column, ballot, status, sequence, set, batch; for 6 and 7 how many slots ran, then each of these in rising
+  order, 32 times its row and its column, whatever the order in which they ran; after the last event the table: per row
+  its length and bar, each slot: ballot, status, sequence, set, batch, source (0 none, or a peer and one), led, marks (a
+  bit a replica); how many keys have columns, each: key, set.
 A batch: its count, then per request client, id, kind: 0 other, 1 put, then key and value, 2 get, then key.
-Codes: 100 done, 101 ignored, 104 wait, 105 Committed, 106 Accepting, 107 PreAccepting, below 100 a refusal's number.
+Codes: 100 done, 101 ignored, 102 not yet, 103 already, 104 wait, 105 Committed, 106 Accepting, 107 PreAccepting, below
+100 a refusal's number.
 After a wait all is 0. A status: 0 Null, 1 PreAccepting, 2 Accepting, 3 Committed, 4 Executed.
 ";
 
@@ -113,7 +116,7 @@ impl Line {
         }
     }
 
-    fn put_event(&mut self, event: &Event) -> Result<(), String> {
+    fn put_event(&mut self, event: &Event) {
         match event {
             Event::Store { what, peer, at, ballot, seq, deps, batch } => {
                 self.put([*what as u64 + 1, *peer, at.row, at.col, *ballot, *seq]);
@@ -122,8 +125,22 @@ impl Line {
             }
             Event::AcceptReply { peer, at, ballot } => self.put([4, *peer, at.row, at.col, *ballot]),
             Event::ExpPrepare { peer, at, ballot } => self.put([5, *peer, at.row, at.col, *ballot]),
+            Event::Logged { at, status } => self.put([6, at.row, at.col, *status]),
+            Event::Attempt { at } => self.put([7, at.row, at.col]),
             Event::Lead { at } => self.put([8, at.row, at.col]),
-            Event::Logged { .. } | Event::Attempt { .. } => return Err(format!("no event of a run: {event:?}")),
+        }
+    }
+
+    fn put_happened(&mut self, happened: &Happened) -> Result<(), String> {
+        let Happened { event, did, run } = happened;
+        self.put_event(event);
+        self.put([code_of(event, did)?, did.output.len() as u64]);
+        for record in &did.output {
+            self.put_record(record)?;
+        }
+        if matches!(event, Event::Logged { .. } | Event::Attempt { .. }) {
+            self.put([run.len() as u64]);
+            self.put(run.iter().map(|slot| u64::from(image::entry(slot))));
         }
         Ok(())
     }
@@ -189,12 +206,8 @@ pub fn run(run: &Run) -> Result<String, String> {
     line.put([RUN]);
     line.put(numbers_of(&run.config));
     line.put([run.events.len() as u64]);
-    for (event, did) in &run.events {
-        line.put_event(event)?;
-        line.put([code_of(did)?, did.output.len() as u64]);
-        for record in &did.output {
-            line.put_record(record)?;
-        }
+    for happened in &run.events {
+        line.put_happened(happened)?;
     }
     line.put_table(&run.table);
     Ok(line.text())

@@ -2,6 +2,7 @@
 //!   beside compare ANSWER SECONDS SEED   ANSWER: the program that calls the C functions
 //!   beside freeze SEED DATE LIST STDOUT  writes a list of the Rust's answers, and what crates/vectors prints of it
 //!   beside trace                         the Rust alone, on a trace in hex on standard input
+mod aim;
 mod answerer;
 mod attempts;
 mod bounds;
@@ -18,6 +19,7 @@ mod list;
 mod random;
 mod reach;
 mod refused;
+mod run;
 mod runs;
 mod rust_says;
 mod spoil;

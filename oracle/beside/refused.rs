@@ -4,12 +4,13 @@ use crate::bytes::{
     self, BATCH, BATCH_IN_CONTENTS, Function, IMAGE, ORDER, Parts, REPLICAS, REPLIES, Request, SET, VOTE_BATCHES,
     VOTE_STATUSES, VOTES, WORD,
 };
-use summerset::plain::Config;
+use summerset::plain::{Config, Status};
 use summerset::refusals::SEQUENCE;
 
 const SHORT: u64 = 0;
 const OUTSIDE: u64 = 1;
 const SHORT_LIST: u64 = 8;
+const UNKNOWN: u64 = 10;
 
 /// What the call is refused with: 0 for a slice that is too short, else the first refusal in the order of the numbers.
 pub fn code(request: &Request) -> Option<u64> {
@@ -36,10 +37,14 @@ pub fn code(request: &Request) -> Option<u64> {
 }
 
 /// What a call on a table is refused with before it comes to the event, which has its refusals from the driver: 0 for a
-/// length, 8 for an order list that is short, then 1 for a byte that stands for nothing, then 1 for the bounds.
+/// length, 10 for a status that is not logged, 8 for an order list that is short, then 1 for a byte that stands for nothing,
+/// then 1 for the bounds.
 pub fn on_table(request: &Request, image: &[u8]) -> Option<u64> {
     if is_short(request) || image.len() != IMAGE {
         return Some(SHORT);
+    }
+    if request.log_status().is_some_and(|number| Status::logged(number).is_none()) {
+        return Some(UNKNOWN);
     }
     if request.list().is_some_and(|list| list.len() < ORDER) {
         return Some(SHORT_LIST);
@@ -57,8 +62,9 @@ pub fn on_table(request: &Request, image: &[u8]) -> Option<u64> {
 }
 
 fn is_short(request: &Request) -> bool {
-    let [first, second, out] = request.function.lengths();
-    request.slices[0].len() < first || request.slices[1].len() < second || request.out < out
+    let [first, second, out, ran] = request.function.lengths();
+    let [one, other] = &request.slices;
+    one.len() < first || other.len() < second || request.out < out || request.ran < ran
 }
 
 /// Whether every mark, status and kind has a meaning, wherever it stands.

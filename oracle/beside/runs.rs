@@ -1,98 +1,27 @@
-//! Runs of the handlers, drawn while the Rust goes through them: the next event is aimed by what its table has.
+//! Runs of the handlers with log events, drawn while the Rust goes through them: the next event is aimed by what its table
+//! has.
 use crate::random::Random;
-use crate::rust_says::caught;
-use crate::{attempts, draw};
-use summerset::drive::Driver;
-use summerset::plain::{Config, Event, Kind, Place, Request, Slot, Status, Stepped, Store, Table};
+use crate::run::{ACCEPTING, COMMITTED, PRE_ACCEPTING, Plan, Run, raises, slots, whole};
+use summerset::plain::{Event, Kind, Place, Request, Slot, Status, Store, Table};
 use summerset::refusals::{COLUMNS, KEYS, SEQUENCE};
 
-/// How a run is drawn. A far one goes to the ends of rows, batches and numbers.
-pub struct Plan {
-    pub config: Config,
-    pub length: usize,
-    pub is_far: bool,
-    /// Whether an event may have more than the list has room for.
-    pub oversteps: bool,
-    /// Whether it keeps to what the rules compare of attempts.
-    pub has_attempts: bool,
-}
-
-const SHORT: usize = 12;
-const LONGEST: usize = 40;
-
-impl Plan {
-    /// Some runs are long, some far, and of these half of seven replicas.
-    pub fn any(random: &mut Random) -> Plan {
-        let config = draw::config(random);
-        let length = 1 + random.below(SHORT);
-        let mut plan = Plan { config, length, is_far: false, oversteps: true, has_attempts: false };
-        if random.one_in(6) {
-            plan.length = SHORT + 1 + random.below(LONGEST - SHORT);
-        }
-        plan.is_far = random.one_in(2);
-        if plan.is_far && random.one_in(2) {
-            plan.config = draw::config_of(7, random);
-        }
-        plan
-    }
-
-    /// As the list has them.
-    pub fn listed(random: &mut Random) -> Plan {
-        Plan { oversteps: false, ..Plan::any(random) }
-    }
-}
-
-/// What happens in a run: an event, or the comparison raises a row's commit bar, in place of the log events.
-#[derive(Clone)]
-pub enum Step {
-    Event(Event),
-    Raise { row: usize, bar: usize },
-}
-
-/// On a table that begins empty: each event with what it did, the table before the last and after it.
-pub struct Run {
-    pub config: Config,
-    pub events: Vec<(Event, Stepped)>,
-    pub before: Table,
-    pub table: Table,
-    driver: Driver,
-    is_far: bool,
-    oversteps: bool,
-    has_attempts: bool,
-}
-
 impl Run {
-    pub fn new(plan: &Plan) -> Run {
-        let driver = Driver::new(plan.config);
-        let Plan { config, is_far, oversteps, has_attempts, .. } = *plan;
-        let (before, table) = (driver.table(), driver.table());
-        Run { config, events: Vec::new(), before, table, driver, is_far, oversteps, has_attempts }
-    }
-
-    /// Takes the Rust through an event: what it did, or what it says where it panics.
-    pub fn take(&mut self, event: &Event) -> Result<Stepped, String> {
-        let stepped = caught(|| self.driver.step(event))?;
-        let after = self.driver.table();
-        if self.has_attempts && !attempts::are_comparable(&self.table, &after) {
-            return Err(
-                "a fault of the comparison: a committed slot is altered or lowered, or has an empty batch".into()
-            );
-        }
-        self.events.push((event.clone(), stepped.clone()));
-        self.before = std::mem::replace(&mut self.table, after);
-        Ok(stepped)
-    }
-
-    pub fn raise(&mut self, row: usize, bar: usize) {
-        self.driver.raise(row, bar);
-        self.table = self.driver.table();
-    }
-
-    /// Draws an event. Some come once more, just as they were.
+    /// Draws an event. Some come once more, just as they were. Where a bar would rise and slots run that the rules do not
+    /// compare, the log event is another.
     pub fn next(&self, random: &mut Random) -> Event {
-        if !self.events.is_empty() && random.one_in(8) {
-            return self.events[random.below(self.events.len())].0.clone();
+        let mut event = match random.one_in(8) && !self.events.is_empty() {
+            true => self.events[random.below(self.events.len())].event.clone(),
+            false => self.another(random),
+        };
+        if let Event::Logged { at, status } = &mut event {
+            if *status == COMMITTED && !self.has_attempts && raises(&self.table, at) {
+                *status = random.of(&[PRE_ACCEPTING, ACCEPTING]);
+            }
         }
+        event
+    }
+
+    fn another(&self, random: &mut Random) -> Event {
         let n = self.config.n as u64;
         let mut event = event(n, &self.table, random);
         if self.is_far {
@@ -101,19 +30,18 @@ impl Run {
         if self.is_far && self.oversteps && random.one_in(16) {
             overstep(&mut event, n, random);
         }
+        if let Event::Logged { status, .. } = &mut event {
+            if self.oversteps && random.one_in(12) {
+                *status = no_log_status(random);
+            }
+        }
         event
     }
 }
 
-/// A run, whole.
-pub fn run(random: &mut Random) -> Result<Run, String> {
-    let plan = Plan::listed(random);
-    let mut run = Run::new(&plan);
-    for _ in 0..plan.length {
-        let event = run.next(random);
-        run.take(&event)?;
-    }
-    Ok(run)
+/// A run of the list, whole.
+pub fn listed(random: &mut Random) -> Result<Run, String> {
+    whole(&Plan::listed(random), random, |run, _, random| run.next(random))
 }
 
 /// Any column, so that rows are filled; full batches and any key.
@@ -158,23 +86,29 @@ fn overstep(event: &mut Event, n: u64, random: &mut Random) {
         Event::Store { peer, .. } | Event::AcceptReply { peer, .. } | Event::ExpPrepare { peer, .. } if which == 4 => {
             *peer = peer.wrapping_add(more)
         }
-        Event::Store { at, .. } | Event::AcceptReply { at, .. } | Event::ExpPrepare { at, .. } | Event::Lead { at } => {
+        Event::Store { at, .. }
+        | Event::AcceptReply { at, .. }
+        | Event::ExpPrepare { at, .. }
+        | Event::Logged { at, .. }
+        | Event::Attempt { at }
+        | Event::Lead { at } => {
             let number = if which == 5 { &mut at.row } else { &mut at.col };
             *number = number.wrapping_add(more);
         }
-        Event::Logged { .. } | Event::Attempt { .. } => {}
     }
 }
 
-/// Often an AcceptReply to a slot that is Accepting and led, or a Lead of one.
+/// Often a mark for a slot that is Accepting and led, or a Lead of one; now and then a note to self.
 fn event(n: u64, table: &Table, random: &mut Random) -> Event {
     let accepting = |is_led: bool| slots(table, |s| s.status == Status::Accepting && s.marks.is_some() == is_led);
-    let (led, unled) = (accepting(true), accepting(false));
-    match random.below(16) {
+    let (led, unled, leads) = (accepting(true), accepting(false), slots(table, |s| s.marks.is_some()));
+    match random.below(20) {
         0 if !led.is_empty() => Event::Lead { at: random.of(&led).0 },
         1..=7 if !led.is_empty() => accept_reply(n, random.of(&led), random),
         8 if !unled.is_empty() => accept_reply(n, random.of(&unled), random),
         9..=11 if !unled.is_empty() => Event::Lead { at: random.of(&unled).0 },
+        12 | 13 if !led.is_empty() => Event::Logged { at: random.of(&led).0, status: ACCEPTING },
+        14 if !leads.is_empty() => Event::Logged { at: random.of(&leads).0, status: PRE_ACCEPTING },
         _ => any_event(n, table, random),
     }
 }
@@ -182,11 +116,12 @@ fn event(n: u64, table: &Table, random: &mut Random) -> Event {
 fn any_event(n: u64, table: &Table, random: &mut Random) -> Event {
     let (at, ballot) = aim(n, table, random);
     let peer = peer(n, random);
-    match random.below(16) {
+    match random.below(20) {
         0 => Event::AcceptReply { peer, at, ballot },
         1..=3 => Event::ExpPrepare { peer, at, ballot },
         4 | 5 => Event::Lead { at },
         6 => wild(n, random),
+        7..=10 => Event::Logged { at, status: log_status(random) },
         _ => {
             let (seq, deps) = (sequence(random), deps(n, random));
             Event::Store { what: what(random), peer, at, ballot, seq, deps, batch: batch(random) }
@@ -195,7 +130,7 @@ fn any_event(n: u64, table: &Table, random: &mut Random) -> Event {
 }
 
 /// Mostly of the slot's ballot and from a peer that is not marked yet.
-fn accept_reply(n: u64, (at, slot): (Place, &Slot), random: &mut Random) -> Event {
+pub fn accept_reply(n: u64, (at, slot): (Place, &Slot), random: &mut Random) -> Event {
     let marks = slot.marks.unwrap_or(0);
     let unmarked: Vec<u64> = (0..n).filter(|p| marks >> p & 1 == 0).collect();
     let any = unmarked.is_empty() || random.one_in(5);
@@ -204,15 +139,33 @@ fn accept_reply(n: u64, (at, slot): (Place, &Slot), random: &mut Random) -> Even
     Event::AcceptReply { peer, at, ballot }
 }
 
+fn either(fits: u64, is_out: u64, random: &mut Random) -> u64 {
+    if random.one_in(4) { is_out } else { fits }
+}
+
 /// Out of bounds in several things at once, so that the order of the refusals shows.
 fn wild(n: u64, random: &mut Random) -> Event {
-    let mut either = |fits: u64, is_out: u64| if random.one_in(4) { is_out } else { fits };
-    let at = Place { row: either(0, n), col: either(0, COLUMNS) };
+    let at = Place { row: either(0, n, random), col: either(0, COLUMNS, random) };
+    if random.one_in(4) {
+        return Event::Logged { at, status: log_status(random) };
+    }
+    let mut either = |fits: u64, is_out: u64| either(fits, is_out, random);
     let (peer, seq, key) = (either(0, n), either(1, SEQUENCE + 1), either(5, KEYS));
     let mut deps = vec![0; n as usize];
     deps[0] = either(1, COLUMNS + 1);
     let batch = vec![Request { client: 1, id: 1, kind: Kind::Put { key, value: 1 } }];
     Event::Store { what: what(random), peer, at, ballot: 1, seq, deps, batch }
+}
+
+/// Of a log event, by its number.
+pub fn log_status(random: &mut Random) -> u64 {
+    random.of(&[PRE_ACCEPTING, ACCEPTING, COMMITTED])
+}
+
+/// A number that no log event has: next to those that there are, or one that would fit if it were cut.
+pub fn no_log_status(random: &mut Random) -> u64 {
+    let cut = log_status(random) + (1 << random.of(&[8, 16, 32, 63]));
+    random.of(&[0, COMMITTED + 1, u64::MAX, cut, cut, cut])
 }
 
 fn what(random: &mut Random) -> Store {
@@ -229,16 +182,6 @@ fn aim(n: u64, table: &Table, random: &mut Random) -> (Place, u64) {
     let (at, slot) = random.of(&there);
     let (less, more) = (slot.ballot.saturating_sub(1), slot.ballot.saturating_add(1));
     (at, random.of(&[less, slot.ballot, slot.ballot, more, any]))
-}
-
-pub fn slots(table: &Table, are_wanted: impl Fn(&Slot) -> bool) -> Vec<(Place, &Slot)> {
-    let mut wanted = Vec::new();
-    for (row, held) in table.rows.iter().enumerate() {
-        for (col, slot) in held.iter().enumerate().filter(|(_, slot)| are_wanted(slot)) {
-            wanted.push((Place { row: row as u64, col: col as u64 }, slot));
-        }
-    }
-    wanted
 }
 
 pub fn place(n: u64, random: &mut Random) -> Place {

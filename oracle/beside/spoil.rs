@@ -33,7 +33,10 @@ pub fn litter(request: &mut Request, random: &mut Random) {
 /// The same of a call of a handler, and slices that are longer than they have to be. A request of kind other has no key
 /// and no value, a get no value: what stands there is nobody's too.
 pub fn litter_handler(request: &mut Request, random: &mut Random) {
-    request.out += random.of(&[0, 0, 1, 100]);
+    let [_, _, out, ran] = request.function.lengths();
+    for (length, least) in [(&mut request.out, out), (&mut request.ran, ran)] {
+        *length += if least > 0 { random.of(&[0, 0, 1, 100]) } else { 0 };
+    }
     if request.list().is_some() {
         let longer = random.of(&[0, 0, 1, 50]);
         request.slices[0].resize(ORDER + longer, 0);

@@ -6,7 +6,7 @@ use crate::bytes::{
 use crate::differ;
 use crate::image::{self, BALLOT, BARS, IN_SLOT, KEY_COLUMNS, LED, LENGTHS, MARKS, ROOM, SLOT, SOURCE, STATUS};
 use crate::random::Random;
-use crate::spoil;
+use crate::{runs, spoil};
 use summerset::plain::Status;
 use summerset::refusals::{COLUMNS, KEYS};
 
@@ -52,7 +52,7 @@ pub fn spoiled(request: &Request, image: &[u8], random: &mut Random) -> (Request
     let times = random.of(&[1, 1, 1, 2]);
     match request.function {
         Function::Open => (0..times).for_each(|_| spoil_open(&mut request, &mut spoiling, random)),
-        function if random.one_in(12) => spoiling.changes = harmless(function, image, random),
+        _ if random.one_in(12) => spoiling.changes = harmless(&request, image, random),
         _ => (0..times).for_each(|_| spoil(&mut request, &mut spoiling, image, random)),
     }
     request.slices[1] = spoiling.bytes();
@@ -82,8 +82,8 @@ fn spoil(request: &mut Request, spoiling: &mut Spoiling, image: &[u8], random: &
     let n = image[0] as usize;
     match random.below(19) {
         0 => spoiling.length = length(random),
-        1 => request.out = shorter(request.function.lengths()[2], random),
-        2..=4 if request.list().is_some() => request.slices[0].truncate(shorter(ORDER, random)),
+        1 => spoil_room(request, random),
+        2..=4 if request.list().is_some() => spoil_list(request, random),
         2 if has_contents => request.slices[0].truncate(shorter(CONTENTS, random)),
         3 | 4 if has_contents => spoil_kind(&mut request.slices[0], random),
         5 | 9 if request.list().is_some() && !unheld.is_empty() => {
@@ -98,15 +98,33 @@ fn spoil(request: &mut Request, spoiling: &mut Spoiling, image: &[u8], random: &
     }
 }
 
-/// Past a row's length any bytes that stand for something: where the call goes, if there is no slot; often as one that heeds
-/// an AcceptReply, or, for an attempt, as one that has run, right behind a row, where dependencies lead to.
+/// `out` or `ran` short, whichever the call takes.
+fn spoil_room(request: &mut Request, random: &mut Random) {
+    let [_, _, out, ran] = request.function.lengths();
+    if ran > 0 && (out == 0 || random.one_in(2)) {
+        request.ran = shorter(ran, random);
+    } else {
+        request.out = shorter(out, random);
+    }
+}
+
+/// The order list short; or, of a log event, its status none, alone or with the list or another length short.
+fn spoil_list(request: &mut Request, random: &mut Random) {
+    let which = if request.function == Function::Logged { random.below(6) } else { 0 };
+    match which {
+        0..=3 => request.slices[0].truncate(shorter(ORDER, random)),
+        4 => spoil_room(request, random),
+        _ => {}
+    }
+    if which > 2 {
+        request.numbers[2] = runs::no_log_status(random);
+    }
+}
+
+/// Past a row's length any bytes that stand for something: often as one that heeds an AcceptReply, or, for an attempt, as
+/// one that has run, for a log event as one that a bar rises over.
 fn nobodys_slot(request: &Request, unheld: &[usize], random: &mut Random) -> Vec<(usize, u8)> {
-    let asked = request.index().filter(|index| unheld.contains(index));
-    let any = match request.list() {
-        Some(_) => random.of(&first_of_rows(unheld)),
-        None => random.of(unheld),
-    };
-    let at = image::slot_at(asked.unwrap_or(any));
+    let at = image::slot_at(nobodys_place(request, unheld, random));
     let mut slot = [0; SLOT];
     spoil::fill(&mut slot, random);
     slot[STATUS] %= Status::ALL.len() as u8;
@@ -117,11 +135,31 @@ fn nobodys_slot(request: &Request, unheld: &[usize], random: &mut Random) -> Vec
         bytes::put(&mut slot, BALLOT, &ballot.to_le_bytes());
     }
     if request.list().is_some() && random.one_in(2) {
-        slot[STATUS] = Status::Executed as u8;
+        let committed = if request.function == Function::Logged { Status::Committed } else { Status::Executed };
+        slot[STATUS] = random.of(&[committed, Status::Executed]) as u8;
     }
     slot[IN_SLOT + 4..IN_SLOT + WORD].fill(0);
     spoil::litter_batch(&mut slot[IN_SLOT + BATCH_IN_CONTENTS..], 0, random);
     (at..).zip(slot).collect()
+}
+
+/// Where the call goes, if there is no slot; else, where slots may run, right behind a row, where dependencies and bars lead
+/// to, of a log event often its own row.
+fn nobodys_place(request: &Request, unheld: &[usize], random: &mut Random) -> usize {
+    let asked = request.index();
+    if let Some(index) = asked.filter(|index| unheld.contains(index)) {
+        return index;
+    }
+    if request.list().is_none() {
+        return random.of(unheld);
+    }
+    let behind = first_of_rows(unheld);
+    let row_of = |index: usize| image::place(index).0;
+    let own = behind.iter().find(|index| asked.is_some_and(|asked| row_of(asked) == row_of(**index)));
+    match own {
+        Some(index) if request.function == Function::Logged && random.one_in(2) => *index,
+        _ => random.of(&behind),
+    }
 }
 
 fn first_of_rows(unheld: &[usize]) -> Vec<usize> {
@@ -202,12 +240,14 @@ fn beyond_in_slot(index: usize, n: usize, random: &mut Random) -> Vec<(usize, u8
 }
 
 /// Within the bounds, and not looked at by a handler: another own number or super quorum, bars anywhere up to the lengths.
-/// An attempt looks at the bars.
-fn harmless(function: Function, image: &[u8], random: &mut Random) -> Vec<(usize, u8)> {
-    let [n, _, simple, _] = [0, 1, 2, 3].map(|at| image[at] as usize);
-    let own = random.below(n) as u8;
-    let sup = (simple + random.below(n - simple + 1)) as u8;
+/// An attempt looks at the bars, and so does Logged Committed; Logged Accepting looks at the own number.
+fn harmless(request: &Request, image: &[u8], random: &mut Random) -> Vec<(usize, u8)> {
+    let [n, own, simple, _] = [0, 1, 2, 3].map(|at| image[at] as usize);
+    let logged = request.log_status().and_then(Status::logged);
+    let own = if logged == Some(Status::Accepting) { own } else { random.below(n) };
+    let sup = simple + random.below(n - simple + 1);
     let bar = |row: usize| (BARS + row, random.below(image[LENGTHS + row] as usize + 1) as u8);
-    let bars = if function == Function::Attempt { 0..0 } else { 0..REPLICAS };
-    bars.map(bar).chain([(1, own), (3, sup)]).collect()
+    let reads_bars = request.function == Function::Attempt || logged == Some(Status::Committed);
+    let bars = if reads_bars { 0..0 } else { 0..REPLICAS };
+    bars.map(bar).chain([(1, own as u8), (3, sup as u8)]).collect()
 }

@@ -1,9 +1,8 @@
 //! Cases and answers in words, for whoever has to look at a difference.
 use crate::bytes::{self, ALREADY, Answer, DONE, Function, IGNORED, NOT_YET, REPLICAS, SET, WAIT, WORD};
 use crate::cases::Case;
-use crate::runs::Step;
 use summerset::drive::deps_of;
-use summerset::plain::{Config, Contents, Event, Place, Reply, Vote};
+use summerset::plain::{Config, Contents, Event, Place, Reply, Status, Vote};
 use summerset::show;
 
 /// What a code says.
@@ -45,14 +44,7 @@ fn vote(v: &Vote) -> String {
     format!("{}: {:?} {}", v.replica, v.status, show::contents(&v.contents))
 }
 
-pub fn step(step: &Step) -> String {
-    match step {
-        Step::Event(happened) => event(happened),
-        Step::Raise { row, bar } => format!("the bar of row {row} is raised to {bar}"),
-    }
-}
-
-fn event(event: &Event) -> String {
+pub fn event(event: &Event) -> String {
     let message = |peer: &u64, at: &Place, ballot: &u64| format!("{}.{} from {peer}, ballot {ballot}", at.row, at.col);
     match event {
         Event::Store { what, peer, at, ballot, seq, deps, batch } => {
@@ -63,8 +55,13 @@ fn event(event: &Event) -> String {
         Event::ExpPrepare { peer, at, ballot } => format!("ExpPrepare {}", message(peer, at, ballot)),
         Event::Lead { at } => format!("Lead {}.{}", at.row, at.col),
         Event::Attempt { at } => format!("Attempt {}.{}", at.row, at.col),
-        Event::Logged { .. } => format!("{event:?}"),
+        Event::Logged { at, status } => format!("Logged {} {}.{}", log_status(*status), at.row, at.col),
     }
+}
+
+/// The status that a log event is of, or the number that is none.
+pub fn log_status(number: u64) -> String {
+    Status::logged(number).map_or(number.to_string(), |status| format!("{status:?}"))
 }
 
 pub fn question(case: &Case) -> String {

@@ -1,5 +1,5 @@
 //! Takes one replica of the Rust through a trace, event by event.
-use crate::plain::{Answer, Config, Contents, Deps, Event, Output, Place, SlotAt, Status, Stepped, Store, Table};
+use crate::plain::{Answer, Config, Contents, Deps, Event, Output, Place, Slot, SlotAt, Status, Stepped, Store, Table};
 use crate::protocols::epaxos::replica::Replica;
 use crate::{refusals, show, utils};
 
@@ -30,12 +30,6 @@ impl Driver {
         self.replica.table()
     }
 
-    /// Raises a row's commit bar, which by the rules only log events do: they have no C function yet, so the comparison
-    /// raises bars by itself, here and in the image alike.
-    pub fn raise(&mut self, row: usize, bar: usize) {
-        self.replica.raise(row, bar);
-    }
-
     /// Refusals first, then the Rust. Where the Rust gives no answer, it is read from what the call did.
     pub fn step(&mut self, event: &Event) -> Stepped {
         if let Some(number) = self.refusal(event) {
@@ -50,11 +44,12 @@ impl Driver {
                 self.heard(|r| r.exp_prepare(*peer as usize, slot_at(at), *ballot))
             }
             Event::AcceptReply { peer, at, ballot } => self.accept_reply(*peer as usize, slot_at(at), *ballot),
-            Event::Logged { at, status: Status::PreAccepting } if self.is_led(slot_at(at)) => {
-                return self.note_to_self(slot_at(at));
-            }
             Event::Logged { at, status } => {
-                self.replica.logged(slot_at(at), *status);
+                let status = Status::logged(*status).expect("a status that is not refused");
+                if status == Status::PreAccepting && self.is_led(slot_at(at)) {
+                    return self.note_to_self(slot_at(at));
+                }
+                self.replica.logged(slot_at(at), status);
                 (Answer::Done, self.replica.take_output())
             }
             Event::Attempt { at } => (self.attempt(slot_at(at)), self.replica.take_output()),
@@ -112,18 +107,18 @@ impl Driver {
     /// base has the note alone. So the call is seen by the line that it tells, and the slot is put back.
     fn note_to_self(&mut self, slot: SlotAt) -> Stepped {
         let held = self.replica.slot(slot).expect("a slot that is not refused");
-        let (ballot, seq, deps) = (held.ballot, held.contents.seq, held.contents.deps);
+        let Slot { ballot, status, contents, .. } = held;
         let own = self.replica.own();
         let start = format!("received PreAcceptReply <- {own} for slot {}.{} ", slot.0, slot.1);
         // at ballot 0 the Rust takes its own call for a suspicion, and tells that
         let rest = match ballot {
             0 => "failure suspected".into(),
-            _ => format!("bal {ballot} seq {seq} deps {}", show::set(&deps)),
+            _ => format!("bal {ballot} seq {} deps {}", contents.seq, show::set(&contents.deps)),
         };
         let replica = &mut self.replica;
         let (put_back, lines) = utils::listen(|| replica.undone(slot, |r| r.logged(slot, Status::PreAccepting)));
         let note = match lines.contains(&(start + &rest)) {
-            true => Output::NoteToSelf { slot, ballot, seq, deps },
+            true => Output::NoteToSelf { slot, ballot, status, contents },
             false => Output::Beyond(format!("no note to self among {lines:?}")),
         };
         Stepped { answer: Answer::Done, output: vec![note], submitted: vec![], put_back }

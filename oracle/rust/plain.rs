@@ -24,6 +24,11 @@ impl Status {
     /// By their numbers in bytes and traces.
     pub const ALL: [Status; 5] =
         [Status::Null, Status::PreAccepting, Status::Accepting, Status::Committed, Status::Executed];
+
+    /// The status that a log event of this number is of: only three are logged.
+    pub fn logged(number: u64) -> Option<Status> {
+        matches!(number, 1..=3).then(|| Status::ALL[number as usize])
+    }
 }
 
 #[derive(Clone, PartialEq, Eq, Debug)]
@@ -78,13 +83,13 @@ pub enum Store {
     CommitNotice,
 }
 
-/// An event of a trace. Dependencies are 0 for nothing, or a column and one.
+/// An event of a trace. Dependencies are 0 for nothing, or a column and one; the status of a log event is any number too.
 #[derive(Clone, PartialEq, Eq, Debug)]
 pub enum Event {
     Store { what: Store, peer: u64, at: Place, ballot: u64, seq: u64, deps: Vec<u64>, batch: Vec<Request> },
     AcceptReply { peer: u64, at: Place, ballot: u64 },
     ExpPrepare { peer: u64, at: Place, ballot: u64 },
-    Logged { at: Place, status: Status },
+    Logged { at: Place, status: u64 },
     Attempt { at: Place },
     Lead { at: Place },
 }
@@ -100,7 +105,8 @@ pub enum Answer {
 
 pub type SlotAt = (usize, usize);
 
-/// What a call hands to the hubs.
+/// What a call hands to the hubs, with all that a record of the rules has. The Rust's PreAcceptReply has no status and no
+/// batch, its AcceptReply nothing but the ballot: what it lacks is the slot's, as it stands.
 #[derive(Clone, PartialEq, Eq, Debug)]
 pub enum Output {
     Log {
@@ -118,19 +124,21 @@ pub enum Output {
         to: usize,
         slot: SlotAt,
         ballot: u64,
-        seq: u64,
-        deps: Deps,
+        status: Status,
+        contents: Contents,
     },
     NoteToSelf {
         slot: SlotAt,
         ballot: u64,
-        seq: u64,
-        deps: Deps,
+        status: Status,
+        contents: Contents,
     },
     AcceptReply {
         to: usize,
         slot: SlotAt,
         ballot: u64,
+        status: Status,
+        contents: Contents,
     },
     ExpPrepareReply {
         to: usize,

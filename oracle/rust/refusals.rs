@@ -1,5 +1,6 @@
-//! Refusals 1 to 7, by the table of the rules: the Rust has none, so they are tested before it is called.
-use crate::plain::{Config, Event, Kind, Place, Request};
+//! Refusals 1 to 7, and 10 of a log status, by the table of the rules: the Rust has none, so they are tested before it is
+//! called.
+use crate::plain::{Config, Event, Kind, Place, Request, Status};
 
 const POPULATION: u64 = 7;
 pub const COLUMNS: u64 = 32;
@@ -34,8 +35,16 @@ fn whence(event: &Event) -> (Option<u64>, Place) {
     }
 }
 
-/// Refusals 2 to 7 of an event, which stand before the ballot; `is_held` says whether a slot is in the table.
+/// Whether it is of a status that is not logged.
+fn is_unknown(event: &Event) -> bool {
+    matches!(event, Event::Logged { status, .. } if Status::logged(*status).is_none())
+}
+
+/// Refusals 10, then 2 to 7 of an event, which stand before the ballot; `is_held` says whether a slot is in the table.
 pub fn refusal(config: &Config, event: &Event, is_held: impl Fn(usize, usize) -> bool) -> Option<u8> {
+    if is_unknown(event) {
+        return Some(10);
+    }
     let n = config.n as u64;
     let (peer, at) = whence(event);
     if peer.is_some_and(|p| p >= n) || at.row >= n {

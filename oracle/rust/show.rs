@@ -26,6 +26,11 @@ pub fn contents(c: &Contents) -> String {
     format!("({},{},{})", c.seq, set(&c.deps), batch(&c.batch))
 }
 
+/// What a reply of the Rust has of them.
+fn first(c: &Contents) -> String {
+    format!("({},{})", c.seq, set(&c.deps))
+}
+
 pub fn answer(a: Answer) -> String {
     match a {
         Answer::Done => "done".into(),
@@ -48,13 +53,13 @@ pub fn output(o: &Output) -> String {
         Output::CommitNotice { slot: (r, c), ballot, contents: held } => {
             format!("to all CommitNotice {r}.{c} ballot {ballot} {}", contents(held))
         }
-        Output::PreAcceptReply { to, slot: (r, c), ballot, seq, deps } => {
-            format!("to {to} PreAcceptReply {r}.{c} ballot {ballot} ({seq},{})", set(deps))
+        Output::PreAcceptReply { to, slot: (r, c), ballot, contents: held, .. } => {
+            format!("to {to} PreAcceptReply {r}.{c} ballot {ballot} {}", first(held))
         }
-        Output::NoteToSelf { slot: (r, c), ballot, seq, deps } => {
-            format!("note to self {r}.{c} ballot {ballot} ({seq},{})", set(deps))
+        Output::NoteToSelf { slot: (r, c), ballot, contents: held, .. } => {
+            format!("note to self {r}.{c} ballot {ballot} {}", first(held))
         }
-        Output::AcceptReply { to, slot: (r, c), ballot } => format!("to {to} AcceptReply {r}.{c} ballot {ballot}"),
+        Output::AcceptReply { to, slot: (r, c), ballot, .. } => format!("to {to} AcceptReply {r}.{c} ballot {ballot}"),
         Output::ExpPrepareReply { to, slot: (r, c), new_ballot, ballot, status, contents: held } => {
             let voted = format!("voted {ballot} {status:?} {}", contents(held));
             format!("to {to} ExpPrepareReply {r}.{c} ballot {new_ballot} {voted}")

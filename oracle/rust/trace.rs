@@ -81,11 +81,8 @@ impl<'a> Reader<'a> {
             4 => Ok(Event::AcceptReply { peer: self.number()?, at: self.place()?, ballot: self.number()? }),
             5 => Ok(Event::ExpPrepare { peer: self.number()?, at: self.place()?, ballot: self.number()? }),
             6 => {
-                let at = self.place()?;
-                match self.number()? {
-                    status @ 1..=3 => Ok(Event::Logged { at, status: Status::ALL[status as usize] }),
-                    _ => Err(10),
-                }
+                let (at, status) = (self.place()?, self.number()?);
+                Status::logged(status).map(|_| Event::Logged { at, status }).ok_or(10)
             }
             7 => Ok(Event::Attempt { at: self.place()? }),
             8 => Ok(Event::Lead { at: self.place()? }),

@@ -1,28 +1,23 @@
 -- What a host may rely on of an attempt on an image: what it writes reads as the table that the attempt gives, what it refuses it leaves, every length stays.
-use mathlib.Core.Path.{_≡_, refl, sym, _∙_}
+use mathlib.Core.Path.{_≡_, refl}
 use mathlib.Core.List.{List}
 use mathlib.Core.Logic.{_↔_}
-use mathlib.Core.Bool.{Bool, true, false, cond, true≢false}
+use mathlib.Core.Bool.{Bool, true, false, cond}
 use Prim.Native.Nat.{ℕ, zero, suc, _<_, _≤_}
 use native.Mathlib.Omega.{arith}
-use borrow.Author.Tests.{eqb-true}
 use lib.Dec.{leb}
 use lib.ListN.{length}
 use lib.Seq.{length-sets}
-use Rattle.base.specs.Answer.{numberOf, isRefused}
+use Rattle.base.specs.Answer.{isRefused}
 use Rattle.base.specs.Marks.{marked}
 use Rattle.base.specs.Refusals.{shortOrder, outsideBounds}
-use Rattle.base.specs.declared.answer.Answer.{Answer}
-use Rattle.base.proofs.Loops.{both-true}
 use Rattle.table.specs.Place.{placeOf}
 use Rattle.table.specs.Table.{slotNo}
 use Rattle.table.specs.declared.place.Place.{Place}
 use Rattle.table.specs.declared.table.Table.{Table}
-use Rattle.layout.proofs.Laying.{lay-length}
-use Rattle.image.specs.Slot.{SlotWhole}
-use Rattle.image.specs.Tables.{imageWidth, tableAt, imageKnown, TableWhole}
-use Rattle.image.proofs.TableLaws.{table-length, table-back, table-known}
-use Rattle.image.proofs.ReadLaws.{Bytes, table-read}
+use Rattle.slot_bytes.specs.Slot.{SlotWhole}
+use Rattle.image.specs.Tables.{tableAt, imageKnown, TableWhole}
+use Rattle.slot_bytes.proofs.ReadLaws.{Bytes}
 use Rattle.attempts.specs.Refusal.{attemptRefusal}
 use Rattle.attempts.specs.Attempt.{ranWith, written, tableAfter, toRun, answerOf, attemptOn, orderOn, attemptOr, orderOr, attemptOf, attemptOrder}
 use Rattle.attempts.proofs.RanLaws.{ran-length, ran-marked, ran-others}
@@ -30,7 +25,9 @@ use Rattle.attempts.proofs.AttemptLaws.{answer-cases}
 use Rattle.attempts.proofs.RefusedLaws.{AttemptRefused, short-order, outside, no-row, no-column, some-refusal}
 use Rattle.attempts.specs.declared.attempt.Attempted.{Attempted}
 use Rattle.calls.specs.Calls.{short}
+use Rattle.calls.proofs.WrittenLaws.{long-image}
 use Rattle.attempting.specs.Attempting.{AttemptCalled, unchanged, onTable, attemptLong, attemptCall}
+use Rattle.attempting.proofs.SettledLaws.{Settles, refused-settles, taken-settles, settled-not, settled-stays, settled-lengths, settled-follows}
 
 -- ---- an attempt keeps a table whole
 
@@ -49,23 +46,20 @@ module _ (t : Table) (marks : List Bool) (w : TableWhole t) where
   unfolding ranWith
   ran-whole = record { config = w .config; lens = w .lens; bars = w .bars; keys = w .keys; slots = ran-length t marks; each = slot-whole }
 
+pub attempt-whole : (t : Table) (at : Place) → TableWhole t → TableWhole (attemptOn t at .table)
+unfolding attemptOn
+attempt-whole t at w = answer-cases t at (λ a. TableWhole (tableAfter a t at)) (λ _. w) (λ _ _. ran-whole t (toRun t at) w) (λ _ _. w)
+
 -- ---- what the entry answers and leaves
 
 module _ (t : Table) (at : Place) (order : List ℕ) where
-  -- a refusal from 1 to 8, which leaves the list as it was, or a number from 100 on
-  pub record Settles (a : Answer) (after : Table) (list : List ℕ) : Type 0 where
-    pub refused : isRefused a ≡ true → (1 ≤ numberOf a) × (numberOf a ≤ 8) × (list ≡ order)
-    pub taken : isRefused a ≡ false → 100 ≤ numberOf a
-    pub whole : isRefused a ≡ false → TableWhole t → TableWhole after
-    pub sized : length list ≡ length order
-
-  on-settles : Settles (attemptOn t at .answer) (attemptOn t at .table) (orderOn t at 0 order)
+  on-settles : Settles t order (attemptOn t at .answer) (attemptOn t at .table) (orderOn t at 0 order)
   unfolding attemptOn orderOn
   on-settles =
-      answer-cases t at (λ a. Settles a (tableAfter a t at) (orderOn t at 0 order))
-      (λ _. record { refused = λ e. absurd (true≢false (sym e)); taken = λ _. omega arith; whole = λ _ w. w; sized = length-sets order 0 (written (answerOf t at) t at) })
-      (λ _ _. record { refused = λ e. absurd (true≢false (sym e)); taken = λ _. omega arith; whole = λ _ w. ran-whole t (toRun t at) w; sized = length-sets order 0 (written (answerOf t at) t at) })
-      (λ _ _. record { refused = λ e. absurd (true≢false (sym e)); taken = λ _. omega arith; whole = λ _ w. w; sized = length-sets order 0 (written (answerOf t at) t at) })
+      taken-settles t order
+      (answer-cases t at (λ a. isRefused a ≡ false) (λ _. refl) (λ _ _. refl) (λ _ _. refl))
+      (attempt-whole t at)
+      (length-sets order 0 (written (answerOf t at) t at))
 
   refusal-low : {k : ℕ} → AttemptRefused t at (length order) k → k ≤ 8
   refusal-low (short-order l) = omega arith
@@ -73,15 +67,15 @@ module _ (t : Table) (at : Place) (order : List ℕ) where
   refusal-low (no-row s w l) = omega arith
   refusal-low (no-column s w r l) = omega arith
 
-  entry-settles : Settles (attemptOf t at (length order) .answer) (attemptOf t at (length order) .table) (attemptOrder t at order)
+  entry-settles : Settles t order (attemptOf t at (length order) .answer) (attemptOf t at (length order) .table) (attemptOrder t at order)
   unfolding attemptOf attemptOrder
   entry-settles = go (attemptRefusal t at (length order)) refl
     where
-      go : (k : ℕ) → attemptRefusal t at (length order) ≡ k → Settles (attemptOr k t at .answer) (attemptOr k t at .table) (orderOr k t at order)
+      go : (k : ℕ) → attemptRefusal t at (length order) ≡ k → Settles t order (attemptOr k t at .answer) (attemptOr k t at .table) (orderOr k t at order)
       go zero e = on-settles
       go (suc k) e =
           let low = refusal-low (some-refusal t at (length order) (omega arith)) in
-          record { refused = λ _. (omega arith, omega arith, refl); taken = λ f. absurd (true≢false f); whole = λ f. absurd (true≢false f); sized = refl }
+          refused-settles t order (omega arith) (omega arith)
 
 -- ---- the call
 
@@ -92,7 +86,7 @@ module _ (row col : ℕ) (image order ran : List ℕ) where
   abbrev entry : Attempted
   entry = attemptOf (tableAt image) (placeOf row col) (length order)
 
-  settles : Settles (tableAt image) (placeOf row col) order (entry .answer) (entry .table) (attemptOrder (tableAt image) (placeOf row col) order)
+  settles : Settles (tableAt image) order (entry .answer) (entry .table) (attemptOrder (tableAt image) (placeOf row col) order)
   settles = entry-settles (tableAt image) (placeOf row col) order
 
   pub attempt-cases : (P : AttemptCalled → Type 0)
@@ -116,12 +110,7 @@ module _ (row col : ℕ) (image order ran : List ℕ) where
   attempt-stays =
       attempt-cases (λ c. c .code < 100 → (c .image ≡ image) × (c .order ≡ order) × (c .ran ≡ ran))
       (λ _ _. (refl, refl, refl)) (λ _. (refl, refl, refl)) (λ _. (refl, refl, refl))
-      (λ _ l. go (isRefused (entry .answer)) refl l)
-    where
-      go : (b : Bool) → isRefused (entry .answer) ≡ b → numberOf (entry .answer) < 100
-          → (onTable row col image order ran .image ≡ image) × (onTable row col image order ran .order ≡ order) × (onTable row col image order ran .ran ≡ ran)
-      go true e l = (rw e refl, settles .refused e .2, rw e refl)
-      go false e l = absurd (omega (arith, settles .taken e))
+      (λ _. settled-stays image order ran (entry .ran) settles)
 
   -- 0 says that ran is short or the image has another length
   pub attempt-zero : (called .code ≡ 0) ↔ (attemptLong image ran ≡ false)
@@ -129,28 +118,16 @@ module _ (row col : ℕ) (image order ran : List ℕ) where
   attempt-zero = (
     attempt-cases (λ c. c .code ≡ 0 → attemptLong image ran ≡ false)
         (λ e _. e) (λ z. absurd (omega arith)) (λ z. absurd (omega arith))
-        (λ _ z. absurd (some (isRefused (entry .answer)) refl z)),
+        (λ _ z. absurd (settled-not settles 0 (λ l. omega arith) (omega arith) z)),
     λ e. rw e refl,
   )
-    where
-      some : (b : Bool) → isRefused (entry .answer) ≡ b → numberOf (entry .answer) ≡ 0 → ⊥
-      some true e z = absurd (omega (arith, settles .refused e .0))
-      some false e z = absurd (omega (arith, settles .taken e))
-
-  long-image : attemptLong image ran ≡ true → length image ≡ imageWidth
-  unfolding attemptLong
-  long-image e = eqb-true _ _ (both-true _ _ e .0)
 
   pub attempt-lengths : (length (called .image) ≡ length image) × (length (called .order) ≡ length order) × (length (called .ran) ≡ length ran)
+  unfolding attemptLong
   attempt-lengths =
       attempt-cases (λ c. (length (c .image) ≡ length image) × (length (c .order) ≡ length order) × (length (c .ran) ≡ length ran))
       (λ _. (refl, refl, refl)) (refl, refl, refl) (refl, refl, refl)
-      (λ long. go (long-image long) (isRefused (entry .answer)) refl)
-    where
-      go : length image ≡ imageWidth → (b : Bool) → isRefused (entry .answer) ≡ b
-          → (length (onTable row col image order ran .image) ≡ length image) × (length (onTable row col image order ran .order) ≡ length order) × (length (onTable row col image order ran .ran) ≡ length ran)
-      go long true e = (rw e refl, settles .sized, rw e refl)
-      go long false e = (rw e (table-length (entry .table) ∙ sym long), settles .sized, rw e (lay-length _ _ _))
+      (λ long. settled-lengths image order ran (entry .ran) settles (long-image image _ long))
 
   -- what an attempt does to the image is what it does to the table
   pub attempt-follows : Bytes image → 100 ≤ called .code
@@ -158,12 +135,4 @@ module _ (row col : ℕ) (image order ran : List ℕ) where
   attempt-follows b =
       attempt-cases (λ c. 100 ≤ c .code → (tableAt (c .image) ≡ entry .table) × (imageKnown (c .image) ≡ true) × (c .order ≡ attemptOrder (tableAt image) (placeOf row col) order))
       (λ _ l. absurd (omega arith)) (λ l. absurd (omega arith)) (λ l. absurd (omega arith))
-      (λ _ l. go (isRefused (entry .answer)) refl l)
-    where
-      go : (x : Bool) → isRefused (entry .answer) ≡ x → 100 ≤ numberOf (entry .answer)
-          → (tableAt (onTable row col image order ran .image) ≡ entry .table) × (imageKnown (onTable row col image order ran .image) ≡ true)
-          × (onTable row col image order ran .order ≡ attemptOrder (tableAt image) (placeOf row col) order)
-      go true e l = absurd (omega (arith, settles .refused e .1))
-      go false e l =
-          let w = settles .whole e (table-read image b) in
-          (rw e (table-back (entry .table) w), rw e (table-known (entry .table) w), refl)
+      (λ _ l. let f = settled-follows image order ran (entry .ran) settles b l in (f .0, f .1, refl))

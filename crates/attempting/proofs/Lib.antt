@@ -1,1 +1,2 @@
+pub mod SettledLaws
 pub mod AttemptingLaws

@@ -4,14 +4,15 @@ use mathlib.Core.Bool.{Bool, cond, _&&_}
 use Prim.Native.Nat.{ℕ}
 use lib.Dec.{leb}
 use lib.ListN.{length}
-use Rattle.base.specs.Answer.{numberOf, isRefused}
+use Rattle.base.specs.Answer.{numberOf}
 use Rattle.base.specs.Refusals.{shortOrder, outsideBounds}
+use Rattle.base.specs.declared.answer.Answer.{Answer}
 use Rattle.table.specs.Place.{placeOf}
-use Rattle.layout.specs.Numbers.{wordBytes, lay}
+use Rattle.layout.specs.Numbers.{wordBytes}
 use Rattle.image.specs.Tables.{tableAt, imageKnown}
 use Rattle.attempts.specs.Attempt.{attemptOf, attemptOrder}
 use Rattle.attempts.specs.declared.attempt.Attempted.{Attempted}
-use Rattle.calls.specs.Calls.{short, enough, imageLong, imageWith}
+use Rattle.calls.specs.Calls.{short, enough, imageLong, imageWith, laidWith}
 
 -- the number that a call returns, and what it leaves in the image, the order list and ran
 pub record AttemptCalled : Type 0 where
@@ -27,15 +28,13 @@ unchanged code image order ran = record { code = code; image = image; order = or
 abbrev pub ranWidth : ℕ
 ranWidth = 8
 
--- a refusal writes nothing
-abbrev pub settledImage : Attempted → List ℕ → List ℕ
-settledImage a image = imageWith (a .answer) (a .table) image
-
-abbrev pub settledRan : Attempted → List ℕ → List ℕ
-settledRan a ran = cond (isRefused (a .answer)) ran (lay ran 0 (wordBytes (a .ran)))
+-- how many slots have run; a refusal writes nothing
+abbrev pub settledRan : Answer → ℕ → List ℕ → List ℕ
+settledRan answer many ran = laidWith answer (wordBytes many) ran
 
 abbrev pub settled : Attempted → List ℕ → List ℕ → List ℕ → AttemptCalled
-settled a image order ran = record { code = numberOf (a .answer); image = settledImage a image; order = order; ran = settledRan a ran }
+settled a image order ran =
+    record { code = numberOf (a .answer); image = imageWith (a .answer) (a .table) image; order = order; ran = settledRan (a .answer) (a .ran) ran }
 
 -- the attempt on the table that the image is
 abbrev pub onTable : ℕ → ℕ → List ℕ → List ℕ → List ℕ → AttemptCalled

@@ -4,9 +4,11 @@ ghost use Prim.Native.Nat.{_≤_};
 ghost use lib.ListN.{length};
 ghost use Rattle.base.specs.Answer.{numberOf};
 ghost use Rattle.image.specs.Tables.{imageWidth};
-ghost use Rattle.attempting.specs.Attempting.{ranWidth, settledImage, settledRan, attemptCall};
+ghost use Rattle.calls.specs.Calls.{imageWith};
+ghost use Rattle.attempting.specs.Attempting.{ranWidth, settledRan, attemptCall};
 use attempts::attempt::Attempted;
 use attempts::attempt::attempt;
+use base::answer::Answer;
 use base::refusals;
 use calls::calls::SHORT;
 use calls::calls::is_refused;
@@ -46,16 +48,27 @@ fn settle(tried: Attempted, image: &mut [u8], ran: &mut [u8]) -> u64
     requires { ⌜ length (now image) ≡ imageWidth ⌝ }
     requires { ⌜ ranWidth ≤ length (now ran) ⌝ }
     ensures result { λ r. ⌜ r ≡ numberOf (tried .answer) ⌝ }
-    ensures table { λ r. ⌜ now (image .exit) ≡ settledImage tried (now (image .entry)) ⌝ }
-    ensures count { λ r. ⌜ now (ran .exit) ≡ settledRan tried (now (ran .entry)) ⌝ }
+    ensures table { λ r. ⌜ now (image .exit) ≡ imageWith (tried .answer) (tried .table) (now (image .entry)) ⌝ }
+    ensures count { λ r. ⌜ now (ran .exit) ≡ settledRan (tried .answer) (tried .ran) (now (ran .entry)) ⌝ }
 {
     let answer = tried.answer;
     let number = answer.number();
+    put_ran(answer, tried.ran, ran);
     if is_refused(answer) {
         return number;
     }
     let table = tried.table;
     put_table(image, table);
-    put_word(ran, 0, tried.ran as u64);
     number
+}
+
+// How many slots have run, a word: a refusal writes nothing.
+pub fn put_ran(answer: Answer, many: usize, ran: &mut [u8])
+    requires { ⌜ ranWidth ≤ length (now ran) ⌝ }
+    ensures { λ _. ⌜ now (ran .exit) ≡ settledRan answer many (now (ran .entry)) ⌝ }
+{
+    if is_refused(answer) {
+        return;
+    }
+    put_word(ran, 0, many as u64);
 }

@@ -13,12 +13,12 @@ use Rattle.base.specs.Marks.{marked}
 use Rattle.base.specs.declared.answer.Answer.{Answer}
 use Rattle.base.specs.declared.answer.Answer.the-variants.{Done, NotYet, Already}
 use Rattle.slots.specs.Slot.{executed}
-use Rattle.table.specs.Bounds.{tableFits}
+use Rattle.bounds.specs.Bounds.{tableFits}
 use Rattle.table.specs.Place.{indexOf}
 use Rattle.table.specs.Table.{lenOf, barOf, slotNo}
 use Rattle.table.specs.declared.place.Place.{Place}
 use Rattle.table.specs.declared.table.Table.{Table}
-use Rattle.table.proofs.BoundLaws.{table-fits-each}
+use Rattle.bounds.proofs.BoundLaws.{table-fits-each}
 use Rattle.leads.specs.Depends.{Valid, Leads}
 use Rattle.leads.specs.Frontier.{In}
 use Rattle.leads.proofs.FrontierLaws.{frontier-sound, frontier-whole, frontier-length, frontier-low, in-rows}
@@ -69,7 +69,7 @@ module _ (t : Table) (at : Place) (h : tableFits t ≡ true) (row : at .row < 7)
   unfolding reached
   in-reached j i = frontier-sound (depsOf t) valid (indexOf at) j i
 
-  reached-slot : (j : ℕ) → Reached j → j < 224
+  pub reached-slot : (j : ℕ) → Reached j → j < 224
   unfolding reached
   reached-slot j l =
       let r = in-rows (reached t at) (j % 32) (j / 32) (frontier-length (depsOf t) valid (indexOf at)) (reached-in j l) in
@@ -131,7 +131,7 @@ module _ (t : Table) (at : Place) (h : tableFits t ≡ true) (row : at .row < 7)
     is-below = answer-cases t at (λ a. a ≡ Done → below t at ≡ true) (λ _ q. absurd (omega (arith, ap numberOf q))) (λ _ b _. b) (λ _ _ q. absurd (omega (arith, ap numberOf q))) d
 
     -- a reached slot is in the table
-    held : (k : ℕ) → Reached k → isHeldNo t k ≡ true
+    pub held : (k : ℕ) → Reached k → isHeldNo t k ≡ true
     held k l =
         let s = reached-slot k l in
         lt-ltb (k % 32) (lenOf t (k / 32)) (omega (arith, under-bars is-below k l, table-fits-each t h .bars-fit (k / 32) (omega arith)))

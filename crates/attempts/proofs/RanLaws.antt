@@ -9,10 +9,10 @@ use Rattle.base.specs.Marks.{marked}
 use Rattle.base.proofs.Loops.{length-below, below-at, below-same}
 use Rattle.slots.specs.Slot.{blankSlot, slotFits, executed}
 use Rattle.slots.specs.declared.slot.Slot.{Slot}
-use Rattle.table.specs.Bounds.{tableFits}
+use Rattle.bounds.specs.Bounds.{tableFits}
 use Rattle.table.specs.Table.{slotNo}
 use Rattle.table.specs.declared.table.Table.{Table}
-use Rattle.table.proofs.BoundLaws.{table-fits-each, each-table-fits}
+use Rattle.bounds.proofs.BoundLaws.{table-fits-each, each-table-fits}
 use Rattle.attempts.specs.Reads.{isHeldNo, depOfNo, depsOf, seqsOf}
 use Rattle.attempts.specs.Attempt.{ranNo, ranWith}
 

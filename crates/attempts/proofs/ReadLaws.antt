@@ -11,12 +11,12 @@ use Rattle.deps.specs.Sets.{depOf, number, setFits}
 use Rattle.deps.specs.declared.sets.DepSet.{DepSet}
 use Rattle.deps.proofs.SetLaws.{fits-each}
 use Rattle.slots.proofs.SlotLaws.{slot-fits-each}
-use Rattle.table.specs.Bounds.{tableFits}
+use Rattle.bounds.specs.Bounds.{tableFits}
 use Rattle.table.specs.Place.{indexOf}
 use Rattle.table.specs.Table.{lenOf, holds, slotNo}
 use Rattle.table.specs.declared.place.Place.{Place}
 use Rattle.table.specs.declared.table.Table.{Table}
-use Rattle.table.proofs.BoundLaws.{table-fits-each}
+use Rattle.bounds.proofs.BoundLaws.{table-fits-each}
 use Rattle.table.proofs.SlotReads.{index-row, index-col}
 use Rattle.leads.specs.Depends.{numberIn, Valid}
 use Rattle.attempts.specs.Reads.{isHeldNo, depOfNo, depsOf, seqsOf}

@@ -13,10 +13,10 @@ use Rattle.base.specs.declared.answer.Answer.{Answer}
 use Rattle.base.specs.declared.answer.Answer.the-variants.{Refused}
 use Rattle.base.proofs.Loops.{count-at-most}
 use Rattle.base.proofs.RefusalLaws.{first-passed, at-first}
-use Rattle.table.specs.Bounds.{tableFits}
+use Rattle.bounds.specs.Bounds.{tableFits}
 use Rattle.table.specs.declared.place.Place.{Place}
 use Rattle.table.specs.declared.table.Table.{Table}
-use Rattle.table.proofs.BoundLaws.{row-below}
+use Rattle.bounds.proofs.BoundLaws.{row-below}
 use Rattle.attempts.specs.Reads.{hasRun}
 use Rattle.attempts.specs.Refusal.{attemptTests, attemptRefusal}
 use Rattle.attempts.specs.Attempt.{tried, attemptOn, orderOn, unrun, attemptOr, orderOr, attemptOf, attemptOrder}

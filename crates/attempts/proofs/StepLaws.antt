@@ -7,7 +7,7 @@ use native.Mathlib.Omega.{arith}
 use lib.ListN.{length, replicate}
 use lib.Seq.{sets}
 use Rattle.base.specs.declared.answer.Answer.the-variants.{Done, NotYet, Already}
-use Rattle.table.specs.Bounds.{tableFits}
+use Rattle.bounds.specs.Bounds.{tableFits}
 use Rattle.table.specs.Place.{indexOf}
 use Rattle.table.specs.declared.place.Place.{Place}
 use Rattle.table.specs.declared.table.Table.{Table}

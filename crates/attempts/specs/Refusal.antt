@@ -4,7 +4,7 @@ use mathlib.Core.Bool.{Bool}
 use lib.Dec.{leb}
 use Prim.Native.Nat.{ℕ}
 use Rattle.base.specs.Refusals.{firstRefusal, shortOrder}
-use Rattle.table.specs.Bounds.{placeTests}
+use Rattle.bounds.specs.Bounds.{placeTests}
 use Rattle.table.specs.declared.place.Place.{Place}
 use Rattle.table.specs.declared.table.Table.{Table}
 

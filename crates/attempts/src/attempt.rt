@@ -3,7 +3,7 @@ ghost use mathlib.Core.Path.{_≡_};
 ghost use mathlib.Core.Bool.{true};
 ghost use Prim.Native.Nat.{_+_, _≤_, _<_};
 ghost use lib.ListN.{length};
-ghost use Rattle.table.specs.Bounds.{tableFits};
+ghost use Rattle.bounds.specs.Bounds.{tableFits};
 ghost use Rattle.table.specs.Place.{indexOf};
 ghost use Rattle.attempts.specs.Reads.{hasRun};
 ghost use Rattle.attempts.specs.Attempt.{unrun, attemptOn, orderOn, attemptOf, attemptOrder};

@@ -2,6 +2,7 @@
 ghost use mathlib.Core.Path.{_≡_};
 ghost use Rattle.attempts.specs.Refusal.{attemptRefusal};
 use base::refusals;
+use bounds::bounds::refusal;
 use table::place::Place;
 use table::table::Table;
 
@@ -12,5 +13,5 @@ pub(crate) fn of_attempt(table: Table, at: Place, entries: usize) -> u64
     if entries < 224 {
         return refusals::SHORT_ORDER;
     }
-    table.refusal(at)
+    refusal(table, at)
 }

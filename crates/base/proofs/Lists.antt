@@ -1,7 +1,7 @@
--- Facts on lists: lengths, elements, folds.
-use mathlib.Core.Path.{_≡_, refl, sym, _∙_}
-use mathlib.Core.List.{List, [], _∷_, map, foldl}
-use Prim.Native.Nat.{ℕ, suc, zero, _<_}
+-- Facts on lists: lengths, elements, runs of stores, folds.
+use mathlib.Core.Path.{_≡_, refl, sym, ap, _∙_}
+use mathlib.Core.List.{List, [], _∷_, _++_, map, foldl}
+use Prim.Native.Nat.{ℕ, suc, zero, _+_, _<_}
 use native.Mathlib.Omega.{arith}
 use borrow.Kind.Array.{good-length, eInt, eBool}
 use denote.Array.{Array}
@@ -9,7 +9,8 @@ use denote.Laws.{Is}
 use mir.Syntax.{Width}
 use mir.Val.{Val}
 use mathlib.Core.Bool.{Bool}
-use lib.ListN.{length, getD, replicate, length-map}
+use lib.ListN.{length, getD, set, replicate, length-map}
+use lib.Seq.{sets}
 
 -- an array of structs is as long as the list of what its relation says of them
 pub length-mapped : (X Y : Type 0) (f : X → Y) (l : List X) (n : ℕ) → length (map f l) ≡ n → length l ≡ n
@@ -32,6 +33,11 @@ pub replicate-at : {A : Type 0} (n i : ℕ) (a : A) → getD (replicate n a) i a
 replicate-at zero i a = refl
 replicate-at (suc n) zero a = refl
 replicate-at (suc n) (suc i) a = replicate-at n i a
+
+-- stored one after the other is stored as one
+pub sets-append : (l : List ℕ) (i : ℕ) (a b : List ℕ) → sets (sets l i a) (i + length a) b ≡ sets l i (a ++ b)
+sets-append l i [] b = ap (λ (k : ℕ). sets l k b) (omega arith)
+sets-append l i (x ∷ a) b = ap (λ (k : ℕ). sets (sets (set l i x) (suc i) a) k b) (omega arith) ∙ sets-append (set l i x) (suc i) a b
 
 -- what every step of a fold keeps, the fold keeps
 pub fold-keeps : {S B : Type 0} (P : S → Type 0) (f : S → B → S) → ((s : S) (b : B) → P s → P (f s b)) → (l : List B) (s : S) → P s → P (foldl f s l)

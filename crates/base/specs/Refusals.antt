@@ -35,6 +35,10 @@ noSlot = 7
 abbrev pub shortOrder : ℕ
 shortOrder = 8
 
+-- a number that stands for no log status
+abbrev pub unreadable : ℕ
+unreadable = 10
+
 -- the limit of a sequence
 abbrev pub sequenceLimit : ℕ
 sequenceLimit = 4294967295

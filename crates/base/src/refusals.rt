@@ -15,4 +15,6 @@ pub const NO_SLOT: u64 = 7; // a log event or Lead for a slot not in the table
 
 pub const SHORT_ORDER: u64 = 8; // an order list of fewer than 224 entries
 
+pub const UNREADABLE: u64 = 10; // a number that stands for no log status
+
 pub const SEQUENCE_LIMIT: u64 = 4294967295;

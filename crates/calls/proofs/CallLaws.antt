@@ -1,19 +1,19 @@
 -- What a host may rely on of a handler's call: what it writes reads as the table that the entry gives, what it refuses it leaves, every length stays.
-use mathlib.Core.Path.{_≡_, refl, sym, _∙_}
+use mathlib.Core.Path.{_≡_, refl}
 use mathlib.Core.List.{List}
 use mathlib.Core.Logic.{_↔_}
 use mathlib.Core.Bool.{Bool, true, false, cond, _&&_}
 use Prim.Native.Nat.{ℕ, _<_, _≤_}
 use native.Mathlib.Omega.{arith}
-use borrow.Author.Tests.{eqb-true}
 use lib.ListN.{length}
 use Rattle.base.specs.Refusals.{outsideBounds}
-use Rattle.base.proofs.Loops.{both-true}
+use Rattle.base.specs.declared.answer.Answer.the-variants.{Ignored, Done}
 use Rattle.table.specs.declared.place.Place.{Place}
 use Rattle.table.specs.declared.table.Table.{Table}
 use Rattle.outcomes.specs.Outcome.{Handled, refused, ignored, done, outcomeOf}
 use Rattle.outcomes.specs.declared.message.Message.{Message}
 use Rattle.outcomes.specs.declared.message.Proposal.{Proposal}
+use Rattle.outcomes.specs.declared.outcome.Outcome.{Outcome}
 use Rattle.proposing.specs.Proposals.{proposed}
 use Rattle.proposing.specs.declared.proposals.Phase.{Phase}
 use Rattle.proposing.specs.declared.proposals.Phase.the-variants as Phases
@@ -22,10 +22,10 @@ use Rattle.handlers.specs.Prepare.{expPrepare}
 use Rattle.handlers.specs.Lead.{leadSlot}
 use Rattle.handlers.proofs.CaseLaws.{WhenRefused}
 use Rattle.handlers.proofs.RefusedLaws.{MessageRefused, outside, no-replica, no-column, ContentsRefused, bad-dependency, bad-batch, over-limit, ProposalRefused, by-message, by-contents, stored-over, LeadRefused, no-row, no-slot, reply-exactly, prepare-exactly, proposed-exactly, lead-exactly}
-use Rattle.layout.proofs.Laying.{lay-length}
-use Rattle.image.specs.Tables.{imageWidth, tableAt, imageKnown, TableWhole}
-use Rattle.image.proofs.TableLaws.{table-length, table-back, table-known}
-use Rattle.image.proofs.ReadLaws.{Bytes, table-read}
+use Rattle.image.specs.Tables.{tableAt, imageKnown, TableWhole}
+use Rattle.slot_bytes.proofs.ReadLaws.{Bytes}
+use Rattle.image.proofs.ReadLaws.{table-read}
+use Rattle.calls.proofs.WrittenLaws.{bytes-stay, laid-length, long-image, image-length, image-reads}
 use Rattle.calls.proofs.WholeLaws.{ProposalWhole, Whole, proposed-whole, reply-whole, prepare-whole, lead-whole}
 use Rattle.calls.specs.Calls.{short, Called, unchanged, settled, callLong, onImage, handledBy}
 use Rattle.calls.specs.declared.calls.Handler.{Handler}
@@ -56,19 +56,16 @@ abbrev pub Numbered : Handled → Type 0
 Numbered = WhenRefused Between
 
 module _ (entry : Table → Handled) (image out : List ℕ) where
-  -- a number below 100 says that image and out are as they were
-  stays : (h : Handled) → settled (outcomeOf (tableAt image) h) image out .code < 100
-      → (settled (outcomeOf (tableAt image) h) image out .image ≡ image) × (settled (outcomeOf (tableAt image) h) image out .out ≡ out)
-  stays (refused k) l = (refl, refl)
-  stays (ignored u) l = absurd (omega arith)
-  stays (done u records) l = absurd (omega arith)
+  abbrev after : Outcome
+  after = outcomeOf (tableAt image) (entry (tableAt image))
 
+  -- a number below 100 says that image and out are as they were
   pub call-stays : (known : Bool) → onImage known entry image out .code < 100 → (onImage known entry image out .image ≡ image) × (onImage known entry image out .out ≡ out)
   call-stays known =
       call-cases (λ c. c .code < 100 → (c .image ≡ image) × (c .out ≡ out)) known entry image out
       (λ e l. (refl, refl))
       (λ e l. (refl, refl))
-      (λ e. stays (entry (tableAt image)))
+      (λ e l. (bytes-stay (after .answer) image _ l, bytes-stay (after .answer) out _ l))
 
   -- 0 says that a slice is short or the image has another length
   handled-some : (h : Handled) → Numbered h → settled (outcomeOf (tableAt image) h) image out .code ≡ 0 → ⊥
@@ -88,38 +85,26 @@ module _ (entry : Table → Handled) (image out : List ℕ) where
 
   -- ---- lengths
 
-  handled-lengths : (h : Handled) → length image ≡ imageWidth
-      → (length (settled (outcomeOf (tableAt image) h) image out .image) ≡ length image) × (length (settled (outcomeOf (tableAt image) h) image out .out) ≡ length out)
-  handled-lengths (refused k) l = (refl, refl)
-  handled-lengths (ignored u) l = (table-length u ∙ sym l, lay-length _ _ _)
-  handled-lengths (done u records) l = (table-length u ∙ sym l, lay-length _ _ _)
-
-  long-image : callLong image out ≡ true → length image ≡ imageWidth
-  unfolding callLong
-  long-image e = eqb-true _ _ (both-true _ _ e .0)
-
   pub call-lengths : (known : Bool) → (length (onImage known entry image out .image) ≡ length image) × (length (onImage known entry image out .out) ≡ length out)
+  unfolding callLong
   call-lengths known =
       call-cases (λ c. (length (c .image) ≡ length image) × (length (c .out) ≡ length out)) known entry image out
       (λ e. (refl, refl))
       (λ e. (refl, refl))
-      (λ e. handled-lengths (entry (tableAt image)) (long-image e))
+      (λ e. (image-length (after .answer) (after .table) image (long-image image _ e), laid-length (after .answer) _ out))
 
   -- ---- what is written is the entry's table, and is known
-
-  abbrev tableAfter : Table
-  tableAfter = outcomeOf (tableAt image) (entry (tableAt image)) .table
 
   handled-reads : (h : Handled) → Numbered h → Whole h → 100 ≤ settled (outcomeOf (tableAt image) h) image out .code
       → (tableAt (settled (outcomeOf (tableAt image) h) image out .image) ≡ outcomeOf (tableAt image) h .table) × (imageKnown (settled (outcomeOf (tableAt image) h) image out .image) ≡ true)
   handled-reads (refused k) n w l = absurd (omega (arith, n .1))
-  handled-reads (ignored u) n w l = (table-back u w, table-known u w)
-  handled-reads (done u records) n w l = (table-back u w, table-known u w)
+  handled-reads (ignored u) n w l = image-reads Ignored u image refl w
+  handled-reads (done u records) n w l = image-reads Done u image refl w
 
   pub call-reads : (known : Bool) → Numbered (entry (tableAt image)) → Whole (entry (tableAt image)) → 100 ≤ onImage known entry image out .code
-      → (tableAt (onImage known entry image out .image) ≡ tableAfter) × (imageKnown (onImage known entry image out .image) ≡ true)
+      → (tableAt (onImage known entry image out .image) ≡ after .table) × (imageKnown (onImage known entry image out .image) ≡ true)
   call-reads known n w =
-      call-cases (λ c. 100 ≤ c .code → (tableAt (c .image) ≡ tableAfter) × (imageKnown (c .image) ≡ true)) known entry image out
+      call-cases (λ c. 100 ≤ c .code → (tableAt (c .image) ≡ after .table) × (imageKnown (c .image) ≡ true)) known entry image out
       (λ e l. absurd (omega arith))
       (λ e l. absurd (omega arith))
       (λ e. handled-reads (entry (tableAt image)) n w)
@@ -147,7 +132,7 @@ module _ (t : Table) where
   proposal-between phase p (by-contents r) = contents-between p r
   proposal-between phase p (stored-over h b s) = (omega arith, omega arith)
 
-  lead-between : (at : Place) {k : ℕ} → LeadRefused t at k → Between k
+  pub lead-between : (at : Place) {k : ℕ} → LeadRefused t at k → Between k
   lead-between at (outside e) = (omega arith, omega arith)
   lead-between at (no-row w e) = (omega arith, omega arith)
   lead-between at (no-column w l c) = (omega arith, omega arith)

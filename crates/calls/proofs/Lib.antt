@@ -1,2 +1,3 @@
 pub mod WholeLaws
+pub mod WrittenLaws
 pub mod CallLaws

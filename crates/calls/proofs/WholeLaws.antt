@@ -1,12 +1,13 @@
 -- Every handler keeps a table whole: what its bytes held before they hold after.
 use mathlib.Core.Path.{_≡_, refl, ap, _∙_}
 use mathlib.Core.Bool.{Bool, true, false}
+use mathlib.Core.List.{List}
 use mathlib.Core.Logic.{⊎-elim, inl, inr}
 use Prim.Native.Nat.{ℕ, suc, _+_, _*_, _<_, _≤_, _^_}
 use native.Mathlib.Omega.{arith}
 use borrow.Author.Tests.{ltb-true, ltb-false, eqb-true, eqb-false}
 use lib.Dec.{ltb, eqb}
-use lib.ListN.{length, replicate, length-set, length-replicate, List·getD-eq-default}
+use lib.ListN.{length, replicate, getD, set, length-set, length-replicate, List·getD-eq-default}
 use lib.Seq.{getD-set-same, getD-set-other}
 use Rattle.base.specs.Refusals.{sequenceLimit}
 use Rattle.base.specs.Config.{configFits}
@@ -28,10 +29,10 @@ use Rattle.slots.specs.Slot.{nullSlot, storedWith, heardFrom, leading, withMark
 use Rattle.slots.specs.declared.slot.Slot.{Slot}
 use Rattle.table.specs.declared.place.Place.{Place}
 use Rattle.table.specs.declared.table.Table.{Table}
-use Rattle.table.proofs.SlotReads.{index-below, put-length, nulls-cases, grown, grown-len, grown-len-other, NullOrKept, null-or-kept}
-use Rattle.table.proofs.BoundLaws.{put-either}
-use Rattle.table.proofs.OpenLaws.{open-empty}
-use Rattle.outcomes.specs.Outcome.{Handled}
+use Rattle.table.proofs.SlotReads.{index-below, put-length, nulls-cases, grown, NullOrKept, null-or-kept}
+use Rattle.bounds.proofs.BoundLaws.{put-either}
+use Rattle.bounds.proofs.OpenLaws.{open-empty}
+use Rattle.outcomes.specs.Outcome.{Handled, refused, ignored, done, outcomeOf}
 use Rattle.outcomes.specs.declared.message.Message.{Message}
 use Rattle.outcomes.specs.declared.message.Proposal.{Proposal}
 use Rattle.proposing.specs.Proposals.{raisedBy, proposed}
@@ -43,7 +44,7 @@ use Rattle.handlers.specs.Lead.{leadSlot}
 use Rattle.outcomes.proofs.RefusalLaws.{Heard, placed-row}
 use Rattle.handlers.proofs.CaseLaws.{Each, filled, slotBefore, toStore, slotAfter, slotMarked, proposed-cases, reply-cases, mark-cases, prepare-cases, lead-cases}
 use Rattle.layout.specs.Batches.{RequestFits, BatchFits}
-use Rattle.image.specs.Slot.{SlotWhole}
+use Rattle.slot_bytes.specs.Slot.{SlotWhole}
 use Rattle.image.specs.Tables.{RowsWhole, KeysWhole, TableWhole}
 
 -- ---- slots
@@ -106,6 +107,16 @@ refreshed-whole k row col b w = fold-keeps KeysWhole (raiseKey row col) (λ q ke
 
 -- ---- tables
 
+-- a row's number, its length or its bar, set to one that a byte holds
+pub set-rows : (rows : List ℕ) (row v : ℕ) → RowsWhole rows → v ≤ 255 → RowsWhole (set rows row v)
+set-rows rows row v w h = record { seven = rw length-set (w .seven); each = λ i p. go i p (eqb i row) refl }
+  where
+    go : (i : ℕ) → i < 7 → (b : Bool) → eqb i row ≡ b → getD (set rows row v) i 0 ≤ 255
+    go i p true e =
+        let f = eqb-true i row e in
+        rw (f, getD-set-same rows row v 0 (omega (arith, f, w .seven))) h
+    go i p false e = rw (getD-set-other rows row i v 0 (eqb-false i row e)) (w .each i p)
+
 module _ (t : Table) (at : Place) (w : TableWhole t) where
   put-whole : (s : Slot) → SlotWhole s → TableWhole (putAt t at s)
   put-whole s v =
@@ -131,22 +142,13 @@ module _ (t : Table) (at : Place) (w : TableWhole t) where
         each = u .each;
       }
 
-  grown-rows : at .col < 32 → RowsWhole (grown t at .lens)
-  grown-rows l = record { seven = rw length-set (w .lens .seven); each = λ i p. go i p (eqb i (at .row)) refl }
-    where
-      go : (i : ℕ) → i < 7 → (b : Bool) → eqb i (at .row) ≡ b → lenOf (grown t at) i ≤ 255
-      go i p true e =
-          let f = eqb-true i (at .row) e in
-          rw f (omega (arith, grown-len t at (omega (arith, f, w .lens .seven))))
-      go i p false e = rw (grown-len-other t at i (eqb-false i (at .row) e)) (w .lens .each i p)
-
   nulls-whole : at .col < 32 → TableWhole (nullsTo t at)
   unfolding nullsIn
   nulls-whole l =
       nulls-cases t at TableWhole (λ reached. w)
       (λ short. record {
         config = w .config;
-        lens = grown-rows l;
+        lens = set-rows (t .lens) (at .row) (suc (at .col)) (w .lens) (omega arith);
         bars = w .bars;
         keys = w .keys;
         slots = length-below 224 _;
@@ -192,6 +194,12 @@ pub record ProposalWhole (p : Proposal) : Type 0 where
 -- the table of a call that is ignored or done is whole
 abbrev pub Whole : Handled → Type 0
 Whole = Each (λ k. Unit) TableWhole (λ u records. TableWhole u)
+
+-- so is the one of a call that is refused, where it was before
+pub outcome-whole : (t : Table) (h : Handled) → TableWhole t → Whole h → TableWhole (outcomeOf t h .table)
+outcome-whole t (refused k) w v = w
+outcome-whole t (ignored u) w v = v
+outcome-whole t (done u records) w v = v
 
 module _ (t : Table) (m : Message) (w : TableWhole t) (heard : Heard t m) where
   filled-whole : TableWhole (filled t m)

@@ -17,7 +17,7 @@ use Rattle.handlers.specs.Prepare.{expPrepare}
 use Rattle.handlers.specs.Lead.{leadSlot}
 use Rattle.layout.specs.Numbers.{lay}
 use Rattle.image.specs.Tables.{imageWidth, tableAt, tableBytes, imageKnown}
-use Rattle.image.specs.Output.{outputWidth, outputBytes}
+use Rattle.output_bytes.specs.Output.{outputWidth, outputBytes}
 use Rattle.calls.specs.declared.calls.Handler.{Handler}
 use Rattle.calls.specs.declared.calls.Handler.the-variants.{PreAccept, Accept, CommitNotice, AcceptReply, ExpPrepare, Lead}
 
@@ -39,16 +39,23 @@ pub record Called : Type 0 where
 abbrev pub unchanged : ℕ → List ℕ → List ℕ → Called
 unchanged code image out = record { code = code; image = image; out = out }
 
--- a refusal writes nothing
+-- a refusal writes nothing: the bytes are as they were
+abbrev pub bytesAfter : Answer → List ℕ → List ℕ → List ℕ
+bytesAfter answer before written = cond (isRefused answer) before written
+
 abbrev pub imageWith : Answer → Table → List ℕ → List ℕ
-imageWith answer t image = cond (isRefused answer) image (tableBytes t)
+imageWith answer t image = bytesAfter answer image (tableBytes t)
+
+-- laid from the first byte on
+abbrev pub laidWith : Answer → List ℕ → List ℕ → List ℕ
+laidWith answer bytes s = bytesAfter answer s (lay s 0 bytes)
 
 abbrev pub settled : Outcome → List ℕ → List ℕ → Called
 settled o image out =
     record {
       code = numberOf (o .answer);
       image = imageWith (o .answer) (o .table) image;
-      out = cond (isRefused (o .answer)) out (lay out 0 (outputBytes (o .output)));
+      out = laidWith (o .answer) (outputBytes (o .output)) out;
     }
 
 -- the image has its length

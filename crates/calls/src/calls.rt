@@ -5,21 +5,21 @@ ghost use lib.ListN.{length};
 ghost use Rattle.outcomes.specs.Outcome.{outcomeOf};
 ghost use Rattle.base.specs.Answer.{isRefused};
 ghost use Rattle.image.specs.Tables.{imageWidth};
-ghost use Rattle.image.specs.Output.{outputWidth};
+ghost use Rattle.output_bytes.specs.Output.{outputWidth};
 ghost use Rattle.calls.specs.Calls.{settled, onImage, handledBy};
 use base::answer::Answer;
 use base::refusals;
 use handlers::lead;
 use handlers::prepare;
 use handlers::replies;
-use image::output;
-use image::output::put_output;
 use image::tables;
 use image::tables::is_known;
 use image::tables::put_table;
 use image::tables::table_at;
 use outcomes::message::Proposal;
 use outcomes::outcome::Outcome;
+use output_bytes::output;
+use output_bytes::output::put_output;
 use proposing::proposals;
 use table::table::Table;
 
@@ -79,7 +79,7 @@ fn handle(handler: Handler, table: Table, proposal: Proposal) -> Outcome
 }
 
 // The answer's number, with the table and the output written: a refusal writes nothing.
-fn settle(outcome: Outcome, image: &mut [u8], out: &mut [u8]) -> u64
+pub fn settle(outcome: Outcome, image: &mut [u8], out: &mut [u8]) -> u64
     requires { ⌜ length (now image) ≡ imageWidth ⌝ }
     requires { ⌜ outputWidth ≤ length (now out) ⌝ }
     ensures result { λ r. ⌜ r ≡ settled outcome (now (image .entry)) (now (out .entry)) .code ⌝ }

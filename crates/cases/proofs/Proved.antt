@@ -15,9 +15,9 @@ use Rattle.decisions.specs.Fast.{joinedBelow, goneCount, fastDecision, fastAnsw
 use Rattle.recovering.specs.Recovery.{highestVote, suchVotes, groupBy, choiceBy, answerBy}
 use Rattle.base.specs.Refusals.{firstRefusal}
 use Rattle.table.specs.Table.{emptyTable, holds, nullsIn, nullsTo, storedAt}
-use Rattle.table.specs.Bounds.{rowFits, rowsFit, slotsFit, tableFits}
+use Rattle.bounds.specs.Bounds.{rowFits, rowsFit, slotsFit, tableFits}
 use Rattle.slots.specs.Slot.{slotFits}
-use Rattle.table.specs.Highest.{isHeld, highestOf}
+use Rattle.bounds.specs.Highest.{isHeld, highestOf}
 use Rattle.outcomes.specs.Refusal.{proposalRefusal}
 use Rattle.proposing.specs.Proposals.{raisedBy, proposed}
 use Rattle.cases.specs.Cases.{Claim, Every, cases}

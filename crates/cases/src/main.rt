@@ -4,6 +4,7 @@ mod sets; // sets.rt: union and identify
 mod choices; // choices.rt: the fast decision and the recovery choices
 mod messages; // messages.rt: the handlers
 mod running; // running.rt: the attempt
+mod log_events; // log_events.rt: log events
 
 fn main() {
     sets::unions();
@@ -18,4 +19,6 @@ fn main() {
     messages::sequences();
     messages::opens();
     running::attempts();
+    log_events::answers();
+    log_events::bars();
 }

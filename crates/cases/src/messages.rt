@@ -1,6 +1,7 @@
 // Cases of the handlers, on tables begun empty: N 3, own 0, simple 2, super 3. Requests put key 5 unless said.
 use super::sets;
 use super::text;
+use bounds::open;
 use deps::batches::Batch;
 use deps::sets::DepSet;
 use handlers::lead;
@@ -10,7 +11,6 @@ use outcomes::message::Message;
 use outcomes::message::Proposal;
 use outcomes::outcome::Outcome;
 use proposing::proposals;
-use table::open;
 use table::place::Place;
 use table::table::Table;
 

@@ -30,7 +30,7 @@ pub(crate) fn attempts() {
 }
 
 // A slot that puts key 5, with a dependency set of these numbers.
-fn committed(table: Table, message: Message, seq: u64, cols: [u8; 7]) -> Table {
+pub(crate) fn committed(table: Table, message: Message, seq: u64, cols: [u8; 7]) -> Table {
     let batch = Batch::of(sets::put(5));
     let notice = Proposal {
         message: message,

@@ -217,6 +217,16 @@ pub(crate) fn ran(count: usize, first: u8, second: u8) {
     }
 }
 
+// Of the first three rows: no case of this program has more.
+pub(crate) fn bars(b: [usize; 7]) {
+    word(b"; bars ");
+    number(b[0] as u64);
+    word(b" ");
+    number(b[1] as u64);
+    word(b" ");
+    number(b[2] as u64);
+}
+
 fn entry(e: u8) {
     word(b" ");
     let at = Place {

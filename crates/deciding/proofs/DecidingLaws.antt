@@ -7,19 +7,16 @@ use native.Mathlib.Omega.{arith}
 use lib.ListN.{length}
 use Rattle.base.specs.declared.config.Config.{Config}
 use Rattle.votes.specs.Answer.{Decided, wait, committed, accepting, preAccepting, refused, decisionOf}
-use Rattle.recovering.specs.declared.recovery.Prepare.{Prepare}
-use Rattle.recovering.specs.declared.recovery.Rule.{Rule}
 use Rattle.layout.specs.Numbers.{lay}
 use Rattle.layout.proofs.Laying.{lay-length}
 use Rattle.deciding.specs.Codes.{codeOf}
 use Rattle.deciding.specs.Answers.{contentsBytes, outOf, codeIf, bytesIf}
 use Rattle.deciding.specs.Fast.{fastLong, fastDecided, fastCode, fastBytes}
-use Rattle.deciding.specs.Recovery.{choiceLong, choiceDecided, choiceCode, choiceBytes}
-use Rattle.deciding.proofs.NumberLaws.{Numbered, some-number, fast-numbered, choice-numbered, fast-at-most}
+use Rattle.deciding.proofs.NumberLaws.{Numbered, some-number, fast-numbered, fast-at-most}
 
 -- ---- of any decision on slices that are long enough or not
 
-kept-length : (long whole : Bool) (d : Decided) (out : List ℕ) → length (bytesIf long whole d out) ≡ length out
+pub kept-length : (long whole : Bool) (d : Decided) (out : List ℕ) → length (bytesIf long whole d out) ≡ length out
 unfolding outOf
 kept-length false whole d out = refl
 kept-length true whole wait out = refl
@@ -28,7 +25,7 @@ kept-length true whole (accepting c) out = lay-length _ _ _
 kept-length true whole (preAccepting c) out = lay-length _ _ _
 kept-length true whole (refused k) out = refl
 
-stays : (long whole : Bool) (d : Decided) (out : List ℕ) → codeIf long d < 105 → bytesIf long whole d out ≡ out
+pub stays : (long whole : Bool) (d : Decided) (out : List ℕ) → codeIf long d < 105 → bytesIf long whole d out ≡ out
 unfolding outOf codeOf
 stays false whole d out h = refl
 stays true whole wait out h = refl
@@ -37,7 +34,7 @@ stays true whole (accepting c) out h = absurd (omega arith)
 stays true whole (preAccepting c) out h = absurd (omega arith)
 stays true whole (refused k) out h = refl
 
-written : (long whole : Bool) (d : Decided) (out : List ℕ) → Numbered d → 105 ≤ codeIf long d → bytesIf long whole d out ≡ lay out 0 (contentsBytes whole (decisionOf d .contents))
+pub written : (long whole : Bool) (d : Decided) (out : List ℕ) → Numbered d → 105 ≤ codeIf long d → bytesIf long whole d out ≡ lay out 0 (contentsBytes whole (decisionOf d .contents))
 unfolding outOf codeOf Numbered
 written false whole d out n h = absurd (omega arith)
 written true whole wait out n h = absurd (omega arith)
@@ -46,11 +43,11 @@ written true whole (accepting c) out n h = refl
 written true whole (preAccepting c) out n h = refl
 written true whole (refused k) out n h = absurd (omega (arith, n .1))
 
-zero-is-short : (long : Bool) (d : Decided) → Numbered d → codeIf long d ≡ 0 → long ≡ false
+pub zero-is-short : (long : Bool) (d : Decided) → Numbered d → codeIf long d ≡ 0 → long ≡ false
 zero-is-short false d n e = refl
 zero-is-short true d n e = absurd (omega (arith, some-number d n, e))
 
-short-is-zero : (long : Bool) (d : Decided) → long ≡ false → codeIf long d ≡ 0
+pub short-is-zero : (long : Bool) (d : Decided) → long ≡ false → codeIf long d ≡ 0
 short-is-zero long d e = rw e
 
 -- ---- the fast decision
@@ -77,21 +74,3 @@ module _ (c : Config) (avoided : ℕ) (replies silent out : List ℕ) where
 
   pub fast-short : fastLong replies silent out ≡ false → fastCode c avoided replies silent out ≡ 0
   fast-short = short-is-zero (fastLong replies silent out) (fastDecided c avoided replies silent)
-
--- ---- the recovery choices
-
-module _ (rule : Rule) (c : Config) (p : Prepare) (acks votes out : List ℕ) where
-  pub choice-length : length (choiceBytes rule c p acks votes out) ≡ length out
-  choice-length = kept-length (choiceLong acks votes out) true (choiceDecided rule c p acks votes) out
-
-  pub choice-stays : choiceCode rule c p acks votes out < 105 → choiceBytes rule c p acks votes out ≡ out
-  choice-stays = stays (choiceLong acks votes out) true (choiceDecided rule c p acks votes) out
-
-  pub choice-written : 105 ≤ choiceCode rule c p acks votes out → choiceBytes rule c p acks votes out ≡ lay out 0 (contentsBytes true (decisionOf (choiceDecided rule c p acks votes) .contents))
-  choice-written = written (choiceLong acks votes out) true (choiceDecided rule c p acks votes) out (choice-numbered c rule p acks votes)
-
-  pub choice-zero : choiceCode rule c p acks votes out ≡ 0 → choiceLong acks votes out ≡ false
-  choice-zero = zero-is-short (choiceLong acks votes out) (choiceDecided rule c p acks votes) (choice-numbered c rule p acks votes)
-
-  pub choice-short : choiceLong acks votes out ≡ false → choiceCode rule c p acks votes out ≡ 0
-  choice-short = short-is-zero (choiceLong acks votes out) (choiceDecided rule c p acks votes)

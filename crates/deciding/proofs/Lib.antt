@@ -1,4 +1,3 @@
-pub mod SevenLaws
 pub mod AnswerLaws
 pub mod NumberLaws
 pub mod DecidingLaws

@@ -8,42 +8,34 @@ use Rattle.base.specs.declared.config.Config.{Config}
 use Rattle.base.specs.Config.{configFits}
 use Rattle.base.specs.Marks.{countOf}
 use Rattle.base.specs.Refusals.{outsideBounds, noReplica, badDependency, badBatch, overLimit}
-use Rattle.base.specs.declared.status.Status.{Status}
-use Rattle.base.specs.declared.status.Status.the-variants.{PreAccepting, Accepting, Committed}
 use Rattle.votes.specs.Answer.{Decided, wait, committed, accepting, preAccepting, refused, unlessRefused}
 use Rattle.votes.specs.Holder.{orElse}
-use Rattle.votes.specs.Contents.{noOpContents}
 use Rattle.votes.specs.Identical.{firstEnough}
 use Rattle.refusing.specs.Refusal.{bothFit, partsFit, refusalOf}
 use Rattle.decisions.specs.Fast.{joined, possible, fastDecision, repliesOf, fastAnswer}
-use Rattle.recovering.specs.Recovery.{highestVote, groupBy, choiceBy, namedFit, countsOf, answerBy}
 use Rattle.votes.specs.declared.contents.Contents.{Contents}
 use Rattle.votes.specs.declared.holder.Holder.{Holder}
 use Rattle.votes.specs.declared.holder.Holder.the-variants.{Nobody, Replica}
 use Rattle.refusing.specs.declared.refusal.Part.{Part}
 use Rattle.refusing.specs.declared.refusal.Part.the-variants.{Deps, Batch, Sequence}
-use Rattle.recovering.specs.declared.recovery.Counts.{Counts}
-use Rattle.recovering.specs.declared.recovery.Prepare.{Prepare}
-use Rattle.recovering.specs.declared.recovery.Rule.{Rule}
 use Rattle.deciding.specs.Codes.{codeOf}
 use Rattle.deciding.specs.Fast.{fastKnown, fastRead, fastDecided}
-use Rattle.deciding.specs.Recovery.{votesKnown, choiceRead, choiceDecided}
 
 -- ---- what a test, a holder and a refusal keep
 
-either : {A : Type 0} (P : A → Type 0) (b : Bool) (x y : A) → P x → P y → P (cond b x y)
+pub either : {A : Type 0} (P : A → Type 0) (b : Bool) (x y : A) → P x → P y → P (cond b x y)
 either P true x y h k = h
 either P false x y h k = k
 
-or-else : (P : Decided → Type 0) (h : Holder) (entries : List Contents) (decide : Contents → Decided) (next : Decided) → ((x : Contents) → P (decide x)) → P next → P (orElse h entries decide next)
+pub or-else : (P : Decided → Type 0) (h : Holder) (entries : List Contents) (decide : Contents → Decided) (next : Decided) → ((x : Contents) → P (decide x)) → P next → P (orElse h entries decide next)
 or-else P Nobody entries decide next f g = g
 or-else P (Replica r) entries decide next f g = f _
 
-unless : (P : Decided → Type 0) (k : ℕ) (d : Decided) → k ≤ 6 → ((i : ℕ) → 1 ≤ i → i ≤ 6 → P (refused i)) → P d → P (unlessRefused k d)
+pub unless : (P : Decided → Type 0) (k : ℕ) (d : Decided) → k ≤ 6 → ((i : ℕ) → 1 ≤ i → i ≤ 6 → P (refused i)) → P d → P (unlessRefused k d)
 unless P zero d l f h = h
 unless P (suc k) d l f h = f (suc k) (omega arith) l
 
-at-most-six : (c : Config) (named : Bool) (listed : List Bool) (entries : List Contents) → refusalOf c named listed entries ≤ 6
+pub at-most-six : (c : Config) (named : Bool) (listed : List Bool) (entries : List Contents) → refusalOf c named listed entries ≤ 6
 unfolding refusalOf
 at-most-six c named listed entries = go (configFits c) named (fits Deps) (fits Batch) (fits Sequence)
   where
@@ -85,34 +77,6 @@ module _ (P : Decided → Type 0) (waits : P wait) (commits : (x : Contents) →
   fast-every avoided replies silent =
       either P (fastKnown avoided replies silent) (fastRead c avoided replies silent) (refused outsideBounds) (fast-answer-is _ _ _ _ _) (refuses 1 (omega arith) (omega arith))
 
-  module _ (starts : (x : Contents) → P (preAccepting x)) where
-    choice-is : (k : Counts) (p : Prepare) (acks voted : List Bool) (statuses : List Status) (entries : List Contents) → P (choiceBy k c p acks voted statuses entries)
-    unfolding choiceBy
-    choice-is k p acks voted statuses entries =
-        let group = groupBy k p voted statuses entries in
-        let by : Status → Holder = λ s. highestVote s voted statuses in
-        let last = orElse (by PreAccepting) entries preAccepting (preAccepting noOpContents) in
-        let third = orElse group entries accepting last in
-        let second = orElse (by Accepting) entries accepting third in
-        let first = orElse (by Committed) entries committed second in
-        either P (ltb (countOf acks) (c .simple)) wait first waits
-        (or-else P (by Committed) entries committed second commits
-        (or-else P (by Accepting) entries accepting third accepts
-        (or-else P group entries accepting last accepts
-        (or-else P (by PreAccepting) entries preAccepting (preAccepting noOpContents) starts (starts _)))))
-
-    choice-answer-is : (rule : Rule) (p : Prepare) (acks voted : List Bool) (statuses : List Status) (entries : List Contents) → P (answerBy rule c p acks voted statuses entries)
-    unfolding answerBy
-    choice-answer-is rule p acks voted statuses entries =
-        let named = namedFit (c .n) (p .row) acks voted in
-        let counts = countsOf rule c in
-        unless P (refusalOf c named voted entries) (choiceBy counts c p acks voted statuses entries) (at-most-six c named voted entries) refuses (choice-is counts p acks voted statuses entries)
-
-    pub choice-every : (rule : Rule) (p : Prepare) (acks votes : List ℕ) → P (choiceDecided rule c p acks votes)
-    unfolding choiceDecided
-    choice-every rule p acks votes =
-        either P (votesKnown acks votes) (choiceRead rule c p acks votes) (refused outsideBounds) (choice-answer-is _ _ _ _ _ _) (refuses 1 (omega arith) (omega arith))
-
 -- ---- the numbers
 
 unfoldable pub Numbered : Decided → Type 0
@@ -133,10 +97,6 @@ some-number (refused k) h = h .0
 pub fast-numbered : (c : Config) (avoided : ℕ) (replies silent : List ℕ) → Numbered (fastDecided c avoided replies silent)
 unfolding Numbered
 fast-numbered = fast-every Numbered tt (λ x. tt) (λ x. tt) (λ k l m. (l, m))
-
-pub choice-numbered : (c : Config) (rule : Rule) (p : Prepare) (acks votes : List ℕ) → Numbered (choiceDecided rule c p acks votes)
-unfolding Numbered
-choice-numbered c = choice-every Numbered tt (λ x. tt) (λ x. tt) (λ k l m. (l, m)) c (λ x. tt)
 
 -- the fast decision pre-accepts nothing: 106 at most
 pub fast-at-most : (c : Config) (avoided : ℕ) (replies silent : List ℕ) → codeOf (fastDecided c avoided replies silent) ≤ 106

@@ -9,8 +9,8 @@ use Rattle.votes.specs.Answer.{Decided}
 use Rattle.decisions.specs.Fast.{fastAnswer}
 use Rattle.octets.specs.Marks.{markOf, marksAt}
 use Rattle.calls.specs.Calls.{enough}
-use Rattle.deciding.specs.Slices.{marksKnown}
-use Rattle.deciding.specs.Sevens.{wordsAt, setsAt}
+use Rattle.passed.specs.Slices.{marksKnown}
+use Rattle.passed.specs.Sevens.{wordsAt, setsAt}
 use Rattle.deciding.specs.Answers.{contentsWidth, ifKnown, codeIf, bytesIf}
 
 unfoldable pub fastLong : List ℕ → List ℕ → List ℕ → Bool

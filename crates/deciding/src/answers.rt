@@ -17,7 +17,7 @@ use votes::answer::Step;
 use votes::contents::Contents;
 
 // The answer to a byte that stands for nothing.
-pub(crate) fn unknown() -> Decision
+pub fn unknown() -> Decision
     ensures { λ r. ⌜ r ≡ decisionOf (refused outsideBounds) ⌝ }
 {
     Decision {
@@ -43,7 +43,7 @@ fn put_contents(out: &mut [u8], whole: bool, contents: Contents)
 }
 
 // The decision's number, with its contents in out's front: a wait or a refusal has none, and leaves out as it was.
-pub(crate) fn answered(decision: Decision, whole: bool, out: &mut [u8]) -> u64
+pub fn answered(decision: Decision, whole: bool, out: &mut [u8]) -> u64
     requires { ⌜ contentsWidth whole ≤ length (now out) ⌝ }
     ensures result { λ r. ⌜ r ≡ stepCode (decision .step) ⌝ }
     ensures bytes { λ r. ⌜ now (out .exit) ≡ outWith whole decision (now (out .entry)) ⌝ }

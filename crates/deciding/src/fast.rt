@@ -6,13 +6,13 @@ ghost use Rattle.votes.specs.Answer.{decisionOf};
 ghost use Rattle.deciding.specs.Fast.{fastKnown, fastDecided, fastCode, fastBytes};
 use super::answers::answered;
 use super::answers::unknown;
-use super::sevens::sets_at;
-use super::sevens::words_at;
-use super::slices::marks_known;
 use base::config::Config;
 use calls::calls::SHORT;
 use decisions::fast;
 use octets::marks::marks_at;
+use passed::sevens::sets_at;
+use passed::sevens::words_at;
+use passed::slices::marks_known;
 use votes::answer::Decision;
 
 // On slices of any length.

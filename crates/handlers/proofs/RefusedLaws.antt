@@ -13,7 +13,7 @@ use Rattle.base.proofs.RefusalLaws.{passed-first, at-first}
 use Rattle.deps.specs.Sets.{setFits}
 use Rattle.deps.specs.Batches.{batchFits}
 use Rattle.table.specs.Table.{holds}
-use Rattle.table.specs.Bounds.{tableFits}
+use Rattle.bounds.specs.Bounds.{tableFits}
 use Rattle.table.specs.declared.place.Place.{Place}
 use Rattle.table.specs.declared.table.Table.{Table}
 use Rattle.outcomes.specs.Output.{outputOf}
@@ -193,7 +193,7 @@ only-pre-accept-over CommitNotice t p h s = absurd (omega (arith, h .seq))
 -- ---- Lead
 
 module _ (t : Table) (at : Place) where
-  some-lead : 0 < leadRefusal t at → LeadRefused t at (leadRefusal t at)
+  pub some-lead : 0 < leadRefusal t at → LeadRefused t at (leadRefusal t at)
   unfolding leadRefusal
   some-lead =
       at-first (LeadRefused t at) (leadTests t at) (
@@ -207,7 +207,7 @@ module _ (t : Table) (at : Place) where
         ),
       )
 
-  lead-number : {k : ℕ} → LeadRefused t at k → (leadRefusal t at ≡ k) × (0 < k)
+  pub lead-number : {k : ℕ} → LeadRefused t at k → (leadRefusal t at ≡ k) × (0 < k)
   unfolding leadRefusal firstRefusal
   lead-number (outside e) = (rw e, omega arith)
   lead-number (no-row w l) = (rw (w, le-ltb _ _ l), omega arith)

@@ -25,7 +25,7 @@ use Rattle.table.specs.declared.place.Place.{Place}
 use Rattle.slots.specs.declared.slot.Slot.{Slot}
 use Rattle.table.specs.declared.table.Table.{Table}
 use Rattle.table.proofs.SlotReads.{nulls-hold, put-there, put-elsewhere, stored-there, stored-elsewhere, stored-config, stored-lens, stored-bars, stored-keys, nulls-config, nulls-bars, nulls-keys, nulls-length, nulls-kept}
-use Rattle.table.proofs.HighestLaws.{highest-at}
+use Rattle.bounds.proofs.HighestLaws.{highest-at}
 use Rattle.outcomes.specs.Output.{logOf, noticeOf, replyOf}
 use Rattle.outcomes.specs.Outcome.{Handled, ignored, done}
 use Rattle.outcomes.specs.Refusal.{messageRefusal, proposalRefusal}

@@ -9,12 +9,12 @@ use Rattle.deps.proofs.SetLaws.{union-fits}
 use Rattle.keys.proofs.KeyLaws.{identify-fits}
 use Rattle.slots.specs.Slot.{storedWith, heardFrom, leading, committed, slotFits}
 use Rattle.table.specs.Table.{slotOf, putAt, storedAt}
-use Rattle.table.specs.Bounds.{tableFits}
+use Rattle.bounds.specs.Bounds.{tableFits}
 use Rattle.table.specs.declared.place.Place.{Place}
 use Rattle.slots.specs.declared.slot.Slot.{Slot}
 use Rattle.table.specs.declared.table.Table.{Table}
 use Rattle.table.proofs.SlotReads.{nulls-config, nulls-keys, nulls-holds}
-use Rattle.table.proofs.BoundLaws.{table-fits-each, held-slot-fits, put-keeps, stored-keeps, nulls-keep}
+use Rattle.bounds.proofs.BoundLaws.{table-fits-each, held-slot-fits, put-keeps, stored-keeps, nulls-keep}
 use Rattle.slots.proofs.SlotLaws.{stored-slot-fits, heard-fits, led-fits, marked-fits, committed-fits}
 use Rattle.outcomes.specs.Outcome.{Handled, refused, ignored, done, outcomeOf}
 use Rattle.outcomes.specs.declared.message.Message.{Message}

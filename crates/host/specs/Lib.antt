@@ -1,2 +1,1 @@
 pub mod Union
-pub mod Messages

@@ -8,7 +8,7 @@
 ghost use mathlib.Core.Path.{_≡_};
 ghost use Rattle.attempting.specs.Attempting.{attemptCall};
 use attempting::attempting::attempt_on;
-use deciding::slices::size;
+use passed::slices::size;
 
 // An entry of the order list is 32 * row + column; the first is the first that ran.
 #[no_mangle]

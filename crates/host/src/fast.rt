@@ -1,9 +1,9 @@
 // The fast decision on the replies to a PreAccept.
 ghost use mathlib.Core.Path.{_≡_};
-ghost use Rattle.deciding.specs.Slices.{configOf};
+ghost use Rattle.passed.specs.Slices.{configOf};
 ghost use Rattle.deciding.specs.Fast.{fastCode, fastBytes};
 use deciding::fast::answer;
-use deciding::slices::config;
+use passed::slices::config;
 
 // n, own, simple, sup: the configuration. avoided: 1 where the fast path is avoided, else 0.
 // replies: 112 bytes; for each of 7 replicas: at 0 a mark, 1 byte, 1 where it replied, else 0; at 7 its sequence,

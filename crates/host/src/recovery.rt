@@ -1,11 +1,11 @@
 // The recovery choice on the votes that a prepare has gathered, by the Rust's counts and by the paper's.
 ghost use mathlib.Core.Path.{_≡_};
 ghost use Rattle.recovering.specs.declared.recovery.Rule.the-variants.{Rust, Paper};
-ghost use Rattle.deciding.specs.Slices.{configOf};
-ghost use Rattle.deciding.specs.Recovery.{prepareOf, choiceCode, choiceBytes};
-use deciding::recovery::answer;
-use deciding::recovery::prepare;
-use deciding::slices::config;
+ghost use Rattle.passed.specs.Slices.{configOf};
+ghost use Rattle.choosing.specs.Recovery.{prepareOf, choiceCode, choiceBytes};
+use choosing::recovery::answer;
+use choosing::recovery::prepare;
+use passed::slices::config;
 use recovering::recovery::Rule;
 
 // n, own, simple, sup: the configuration. row: the slot's row; highest: the highest ballot that was voted at;

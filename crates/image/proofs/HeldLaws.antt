@@ -13,17 +13,17 @@ use Rattle.slots.specs.declared.slot.Slot.{Slot}
 use Rattle.slots.specs.Slot.{storedWith, slotFits}
 use Rattle.slots.proofs.SlotLaws.{slot-fits-each}
 use Rattle.table.specs.Table.{lenOf, slotNo}
-use Rattle.table.specs.Bounds.{tableFits}
+use Rattle.bounds.specs.Bounds.{tableFits}
 use Rattle.table.specs.declared.table.Table.{Table}
-use Rattle.table.proofs.BoundLaws.{table-fits-each, len-at-most}
+use Rattle.bounds.proofs.BoundLaws.{table-fits-each, len-at-most}
 use Rattle.layout.specs.Numbers.{wordBytes}
 use Rattle.layout.specs.Each.{eachBytes}
 use Rattle.layout.specs.Batches.{requestIn, batchBytes, RequestFits}
 use Rattle.octets.specs.Sets.{setBytes}
-use Rattle.image.specs.Contents.{contentsBytes}
-use Rattle.image.specs.Slot.{slotKnown, marksBytes, headBytes, slotBytes, SlotWhole}
+use Rattle.slot_bytes.specs.Contents.{contentsBytes}
+use Rattle.slot_bytes.specs.Slot.{slotKnown, marksBytes, headBytes, slotBytes, SlotWhole}
 use Rattle.image.specs.Tables.{tableAt, imageKnown, tableBytes, ConfigWhole, RowsWhole, KeysWhole}
-use Rattle.image.proofs.SlotLaws.{slot-bytes-known}
+use Rattle.slot_bytes.proofs.SlotLaws.{slot-bytes-known}
 use Rattle.image.proofs.TableLaws.{same-config, same-lens, same-bars, same-keys, same-slot, slots-known}
 
 -- ---- what every value of the types has

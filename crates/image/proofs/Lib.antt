@@ -1,5 +1,3 @@
-pub mod SlotLaws
 pub mod TableLaws
 pub mod HeldLaws
-pub mod OutputLaws
 pub mod ReadLaws

@@ -1,4 +1,1 @@
-pub mod Contents
-pub mod Slot
 pub mod Tables
-pub mod Output

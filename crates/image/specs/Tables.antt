@@ -1,8 +1,8 @@
 -- The table, 33,618 bytes: configuration 4, row lengths 7, commit bars 7, key columns 256 of 7, slots 224 of 142.
 use mathlib.Core.Path.{_≡_}
-use mathlib.Core.List.{List, [], _∷_, _++_}
+use mathlib.Core.List.{List, _++_}
 use mathlib.Core.Bool.{Bool}
-use Prim.Native.Nat.{ℕ, _+_, _*_, _<_, _≤_, min}
+use Prim.Native.Nat.{ℕ, _+_, _*_, _<_, _≤_}
 use lib.ListN.{length, getD, drop}
 use Rattle.base.specs.Below.{allBelow}
 use Rattle.base.specs.declared.config.Config.{Config}
@@ -11,11 +11,12 @@ use Rattle.keys.specs.declared.columns.Keys.{Keys}
 use Rattle.slots.specs.Slot.{blankSlot}
 use Rattle.slots.specs.declared.slot.Slot.{Slot}
 use Rattle.table.specs.Table.{tableOf, slotNo}
-use Rattle.table.specs.Open.{configOf}
+use Rattle.bounds.specs.Open.{configOf}
 use Rattle.table.specs.declared.table.Table.{Table}
+use Rattle.layout.specs.Numbers.{byteFor}
 use Rattle.layout.specs.Each.{eachAt, eachBytes}
 use Rattle.octets.specs.Sets.{rowsAt, setBytes}
-use Rattle.image.specs.Slot.{slotAt, slotBytes, slotKnown, SlotWhole}
+use Rattle.slot_bytes.specs.Slot.{slotAt, slotBytes, slotKnown, SlotWhole}
 
 abbrev pub imageWidth : ℕ
 imageWidth = 33618
@@ -42,10 +43,7 @@ knownAt l i = slotKnown (drop (1810 + 142 * i) l)
 unfoldable pub imageKnown : List ℕ → Bool
 imageKnown l = allBelow 224 (knownAt l)
 
--- ---- writing: a number above 255 as 255
-
-abbrev pub byteFor : ℕ → List ℕ
-byteFor v = min v 255 ∷ []
+-- ---- writing
 
 unfoldable pub configBytes : Config → List ℕ
 configBytes c = byteFor (c .n) ++ byteFor (c .own) ++ byteFor (c .simple) ++ byteFor (c .sup)

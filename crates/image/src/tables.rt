@@ -10,9 +10,9 @@ use super::rows::put_config;
 use super::rows::put_keys;
 use super::rows::put_rows;
 use super::rows::rows_at;
-use super::slot::put_slot;
-use super::slot::slot_at;
-use super::slot::slot_known;
+use slot_bytes::slot::put_slot;
+use slot_bytes::slot::slot_at;
+use slot_bytes::slot::slot_known;
 use slots::slot::Slot;
 use table::table::Table;
 

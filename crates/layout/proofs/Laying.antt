@@ -1,22 +1,16 @@
 -- Bytes laid over others: one run after the other is one longer run.
 use mathlib.Core.Path.{_≡_, refl, ap, _∙_}
 use mathlib.Core.List.{List, [], _∷_, _++_, append-nil}
-use Prim.Native.Nat.{ℕ, suc, _+_}
-use native.Mathlib.Nat.{add-zero}
+use Prim.Native.Nat.{ℕ, _+_}
 use native.Mathlib.Omega.{arith}
 use lib.ListN.{length, drop, set, length-append, drop-of-length-le}
-use lib.Seq.{sets, length-sets, sets-eq}
+use lib.Seq.{length-sets, sets-eq}
+use Rattle.base.proofs.Lists.{sets-append}
 use Rattle.layout.specs.Numbers.{lay}
-
-sets-sets : (l : List ℕ) (i : ℕ) (a b : List ℕ) → sets (sets l i a) (i + length a) b ≡ sets l i (a ++ b)
-sets-sets l i [] b = rw add-zero
-sets-sets l i (x ∷ a) b =
-    let e : i + suc (length a) ≡ suc i + length a = omega arith in
-    rw e (sets-sets (set l i x) (suc i) a b)
 
 pub lay-then : (l : List ℕ) (i : ℕ) (a b : List ℕ) (k : ℕ) → length a ≡ k → lay (lay l i a) (i + k) b ≡ lay l i (a ++ b)
 unfolding lay
-lay-then l i a b k e = rw (← e) (sets-sets l i a b)
+lay-then l i a b k e = rw (← e) (sets-append l i a b)
 
 pub lay-length : (l : List ℕ) (i : ℕ) (a : List ℕ) → length (lay l i a) ≡ length l
 unfolding lay

@@ -1,6 +1,6 @@
 -- Numbers in bytes, low byte first.
 use mathlib.Core.List.{List, [], _∷_}
-use Prim.Native.Nat.{ℕ, zero, suc, _+_, _*_, _/_, _%_}
+use Prim.Native.Nat.{ℕ, zero, suc, _+_, _*_, _/_, _%_, min}
 use lib.ListN.{getD}
 use lib.Seq.{sets}
 
@@ -30,6 +30,10 @@ shortBytes v = numberBytes 2 v
 
 abbrev pub byteOf : List ℕ → ℕ
 byteOf l = getD l 0 0
+
+-- a number above 255 is written as 255
+abbrev pub byteFor : ℕ → List ℕ
+byteFor v = min v 255 ∷ []
 
 -- the bytes of old, with new over them from a place on
 unfoldable pub lay : List ℕ → ℕ → List ℕ → List ℕ

@@ -9,10 +9,10 @@ use Rattle.base.proofs.RefusalLaws.{first-passed, append-refused, first-append-
 use Rattle.deps.specs.Sets.{setFits}
 use Rattle.deps.specs.Batches.{batchFits}
 use Rattle.table.specs.Table.{holds}
-use Rattle.table.specs.Bounds.{tableFits}
+use Rattle.bounds.specs.Bounds.{tableFits}
 use Rattle.table.specs.declared.place.Place.{Place}
 use Rattle.table.specs.declared.table.Table.{Table}
-use Rattle.table.proofs.BoundLaws.{row-below}
+use Rattle.bounds.proofs.BoundLaws.{row-below}
 use Rattle.outcomes.specs.Refusal.{messageTests, contentsTests, leadTests, messageRefusal, proposalRefusal, leadRefusal}
 use Rattle.outcomes.specs.declared.message.Message.{Message}
 use Rattle.outcomes.specs.declared.message.Proposal.{Proposal}

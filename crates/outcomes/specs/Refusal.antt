@@ -7,7 +7,7 @@ use Rattle.base.specs.Refusals.{firstRefusal, outsideBounds, noReplica, noColum
 use Rattle.deps.specs.Sets.{setFits}
 use Rattle.deps.specs.Batches.{batchFits}
 use Rattle.table.specs.Table.{holds}
-use Rattle.table.specs.Bounds.{tableFits, placeTests}
+use Rattle.bounds.specs.Bounds.{tableFits, placeTests}
 use Rattle.table.specs.declared.place.Place.{Place}
 use Rattle.table.specs.declared.table.Table.{Table}
 use Rattle.outcomes.specs.declared.message.Message.{Message}

@@ -4,13 +4,15 @@ ghost use Rattle.outcomes.specs.Refusal.{messageRefusal, proposalRefusal
 use super::message::Message;
 use super::message::Proposal;
 use base::refusals;
+use bounds::bounds::fits;
+use bounds::bounds::refusal;
 use table::place::Place;
 use table::table::Table;
 
 pub fn of_message(table: Table, message: Message) -> u64
     ensures { λ r. ⌜ r ≡ messageRefusal table message ⌝ }
 {
-    if !table.fits() {
+    if !fits(table) {
         return refusals::OUTSIDE_BOUNDS;
     }
     let config = table.config;
@@ -53,7 +55,7 @@ pub fn of_proposal(table: Table, proposal: Proposal) -> u64
 pub fn of_lead(table: Table, at: Place) -> u64
     ensures { λ r. ⌜ r ≡ leadRefusal table at ⌝ }
 {
-    let number = table.refusal(at);
+    let number = refusal(table, at);
     if 0 < number {
         return number;
     }

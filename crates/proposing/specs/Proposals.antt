@@ -11,7 +11,7 @@ use Rattle.deps.specs.declared.sets.DepSet.{DepSet}
 use Rattle.keys.specs.Columns.{identifyOf}
 use Rattle.slots.specs.Slot.{storedWith, heardFrom}
 use Rattle.table.specs.Table.{slotOf, nullsTo, storedAt}
-use Rattle.table.specs.Highest.{highestOf}
+use Rattle.bounds.specs.Highest.{highestOf}
 use Rattle.table.specs.declared.place.Place.{Place}
 use Rattle.slots.specs.declared.slot.Slot.{Slot}
 use Rattle.table.specs.declared.table.Table.{Table}

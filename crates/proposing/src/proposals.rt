@@ -6,6 +6,7 @@ ghost use Rattle.outcomes.specs.Outcome.{outcomeOf};
 ghost use Rattle.proposing.specs.Proposals.{preAccept, accept, commitNotice, proposed, valuesOf, raisedBy, storedFor};
 use base::refusals;
 use base::status::Status;
+use bounds::highest::highest;
 use deps::batches::Batch;
 use deps::sets::DepSet;
 use outcomes::message::Message;
@@ -96,7 +97,7 @@ fn raised(given: Values, table: Table, batch: Batch) -> Values
 {
     let deps = given.deps;
     let mine = table.identify(batch);
-    let next = 1 + table.highest(mine) as u64;
+    let next = 1 + highest(table, mine) as u64;
     Values {
         seq: greater(given.seq, next),
         deps: deps.union(mine),

@@ -1,6 +1,6 @@
 -- The recovery choice, the Rust's and the paper's.
 use mathlib.Core.List.{List}
-use mathlib.Core.Bool.{Bool, false, cond, not, _&&_}
+use mathlib.Core.Bool.{Bool, cond, not, _&&_}
 use lib.Dec.{ltb, leb, eqb}
 use lib.ListN.{getD}
 use Prim.Native.Nat.{ℕ, _-_, _/_}

@@ -1,27 +1,23 @@
 // Events of a run: a tag, which is a trace's, and what the event holds.
 ghost use Prim.Native.Nat.{_≤_};
 use super::list::LOST;
+use super::list::Number;
 use super::list::number_at;
 use super::parts::batch_at;
 use super::parts::set_at;
 use deps::batches::Batch;
 use deps::sets::DepSet;
-use handlers::lead::lead;
-use handlers::prepare::exp_prepare;
-use handlers::replies::accept_reply;
+use logged::status::is_status;
 use outcomes::message::Message;
 use outcomes::message::Proposal;
-use proposing::proposals::accept;
-use proposing::proposals::commit_notice;
-use proposing::proposals::pre_accept;
 use table::place::Place;
-use table::table::Table;
 
-// 1 PreAccept, 2 Accept, 3 CommitNotice, 4 AcceptReply, 5 ExpPrepare, 8 Lead. The last three have no use for all of the
-// proposal.
+// 1 PreAccept, 2 Accept, 3 CommitNotice, 4 AcceptReply, 5 ExpPrepare, 6 Logged, 7 Attempt, 8 Lead. From the fourth on they
+// have no use for all of the proposal. The status is that of a Logged.
 pub struct Event {
     pub tag: u64,
     pub proposal: Proposal,
+    pub status: u64,
     pub next: usize,
 }
 
@@ -35,22 +31,6 @@ pub struct ReadMessage {
     pub next: usize,
 }
 
-// What the event does to the table.
-pub(crate) fn happen(table: Table, event: Event) -> outcomes::outcome::Outcome {
-    let tag = event.tag;
-    let proposal = event.proposal;
-    let message = proposal.message;
-    let at = message.at;
-    match tag {
-        1 => pre_accept(table, proposal),
-        2 => accept(table, proposal),
-        3 => commit_notice(table, proposal),
-        4 => accept_reply(table, message),
-        5 => exp_prepare(table, message),
-        _ => lead(table, at),
-    }
-}
-
 pub(crate) fn event_at(list: &[u8], at: usize, n: u64) -> Event
     requires { ⌜ n ≤ 7 ⌝ }
 {
@@ -59,7 +39,8 @@ pub(crate) fn event_at(list: &[u8], at: usize, n: u64) -> Event
     match tag {
         1 | 2 | 3 => proposal_at(list, number.next, n, tag),
         4 | 5 => without_contents(tag, message_at(list, number.next)),
-        8 => without_contents(tag, lead_at(list, number.next)),
+        6 => logged_at(list, number.next, tag),
+        7 | 8 => without_contents(tag, from_nobody_at(list, number.next)),
         _ => without_contents(tag, message_at(list, LOST)),
     }
 }
@@ -85,6 +66,7 @@ fn proposal_at(list: &[u8], at: usize, n: u64, tag: u64) -> Event
     Event {
         tag: tag,
         proposal: proposal,
+        status: 0,
         next: read.next,
     }
 }
@@ -100,8 +82,28 @@ fn without_contents(tag: u64, head: ReadMessage) -> Event {
     Event {
         tag: tag,
         proposal: proposal,
+        status: 0,
         next: head.next,
     }
+}
+
+// Row, column, status.
+fn logged_at(list: &[u8], at: usize, tag: u64) -> Event {
+    let head = from_nobody_at(list, at);
+    let status = status_at(list, head.next);
+    let mut event = without_contents(tag, head);
+    event.status = status.value;
+    event.next = status.next;
+    event
+}
+
+// The number of a log status; one that stands for none cannot be read.
+fn status_at(list: &[u8], at: usize) -> Number {
+    let number = number_at(list, at, u64::MAX);
+    if !is_status(number.value) {
+        return Number::NONE;
+    }
+    number
 }
 
 // Peer, row, column, ballot.
@@ -121,8 +123,8 @@ fn message_at(list: &[u8], at: usize) -> ReadMessage {
     }
 }
 
-// Row, column; a Lead comes from nobody.
-fn lead_at(list: &[u8], at: usize) -> ReadMessage {
+// Row, column: a Logged, an Attempt and a Lead are no messages.
+fn from_nobody_at(list: &[u8], at: usize) -> ReadMessage {
     let read = place_at(list, at);
     let place = read.place;
     let message = Message {

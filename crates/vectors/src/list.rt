@@ -11,7 +11,7 @@ pub struct Number {
 }
 
 impl Number {
-    const NONE: Number = Number {
+    pub const NONE: Number = Number {
         value: 0,
         next: LOST,
     };

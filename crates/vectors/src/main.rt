@@ -1,6 +1,6 @@
-// Replays a list of cases, each with the right answer, against the C functions of crate host, the key columns of crate keys
-// and the handlers of crate handlers, and prints how many there are and which of them differ. The first argument names the
-// list.
+// Replays a list of cases, each with the right answer, against the C functions of crate host, the key columns of crate keys,
+// the handlers of crate handlers, the attempts of crate attempts and the log events of crate logged, and prints how many there
+// are and which of them differ. The first argument names the list.
 mod text; // text.rt: how words, numbers and lines are printed
 mod list; // list.rt: the head of the list, and the numbers after it
 mod parts; // parts.rt: what cases are made of, out of numbers: marks, sets, batches
@@ -10,10 +10,12 @@ mod fast; // fast.rt: cases of the fast decision
 mod choice; // choice.rt: cases of both recovery choices
 mod identify; // identify.rt: cases of the key columns
 mod contents; // contents.rt: what slots and records have alike
-mod events; // events.rt: events of a run, and the handlers
+mod events; // events.rt: events of a run
+mod happen; // happen.rt: what an event does
 mod records; // records.rt: what an event puts out, beside the list
+mod ran; // ran.rt: the slots that an event runs, beside the list
 mod tables; // tables.rt: the table after a run, beside the list
-mod run; // run.rt: cases of the handlers, many events on one table
+mod run; // run.rt: cases of handlers, log events and attempts, many events on one table
 mod tally; // tally.rt: the counts, and the lines on what differs
 mod replay; // replay.rt: the cases of a list, one after the other
 

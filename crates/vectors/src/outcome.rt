@@ -74,7 +74,7 @@ fn goes_on(code: u64) -> bool {
     }
 }
 
-fn are_all(bytes: &[u8], byte: u8) -> bool {
+pub(crate) fn are_all(bytes: &[u8], byte: u8) -> bool {
     let mut i: usize = 0;
     while i < bytes.len() {
         if bytes[i] != byte {

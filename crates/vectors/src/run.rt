@@ -1,15 +1,17 @@
-// Runs of the handlers, of kind 6: configuration; events on a table that begins empty, each with the number of its answer and
-// with its records; and then the table after the last.
+// Runs, of kind 6: configuration; events on a table that begins empty, each with the number of its answer, with its records
+// and, of a Logged and an Attempt, with the slots that it runs; and then the table after the last.
 ghost use Prim.Native.Nat.{_≤_};
 use super::events::event_at;
-use super::events::happen;
+use super::happen::happen;
 use super::list::number_at;
 use super::outcome::Outcome;
 use super::parts::Config;
 use super::parts::config_at;
+use super::ran::NO_SLOT;
+use super::ran::same_ran;
 use super::records::same_output;
 use super::tables::same_table;
-use table::open::open;
+use bounds::open::open;
 use table::table::Table;
 
 // A table is opened, since every configuration of the list is within the bounds.
@@ -64,19 +66,22 @@ fn with_event(list: &[u8], n: u64, run: Run) -> Run
     requires { ⌜ n ≤ 7 ⌝ }
 {
     let before = run.outcome;
-    let event = event_at(list, before.next, n);
-    let code = number_at(list, event.next, u64::MAX);
     let table = run.table;
-    let did = happen(table, event);
+    let event = event_at(list, before.next, n);
+    let mut order = [NO_SLOT; 224];
+    let happened = happen(table, event, &mut order);
+    let did = happened.outcome;
     let answer = did.answer;
     let output = did.output;
     let after = did.table;
-    let same = same_output(list, code.next, n, output);
+    let code = number_at(list, event.next, u64::MAX);
+    let records = same_output(list, code.next, n, output);
+    let ran = same_ran(list, records.next, event.tag, happened.ran, &order);
     let outcome = Outcome {
         answers: answer.number(),
         listed: code.value,
-        agree: same.agree,
-        next: same.next,
+        agree: records.agree && ran.agree,
+        next: ran.next,
     };
     Run {
         outcome: before.then(outcome),

@@ -233,11 +233,6 @@ impl Replica {
         now(self.0.handle_log_result(id, LogResult::Append { now_size })).expect("a log event within the bounds");
     }
 
-    /// The commit bar alone: an attempt reads it and the slots, and no run bar.
-    pub fn raise(&mut self, row: usize, bar: usize) {
-        self.0.commit_bars[row] = bar;
-    }
-
     pub fn attempt(&mut self, (row, col): SlotAt) -> bool {
         now(self.0.attempt_execution(SlotIdx(small(row), col), false)).expect("an attempt within the bounds")
     }
@@ -257,8 +252,50 @@ impl Replica {
 
     pub fn take_output(&mut self) -> Vec<Output> {
         let logged = std::mem::take(&mut self.0.storage_hub.got).into_iter().map(log_record);
-        let sent = std::mem::take(&mut self.0.transport_hub.got).into_iter().map(|(m, to)| message_record(m, to));
-        logged.chain(sent).collect()
+        let sent = std::mem::take(&mut self.0.transport_hub.got);
+        logged.chain(sent.into_iter().map(|(m, to)| self.message_record(m, to.map(usize::from)))).collect()
+    }
+
+    fn message_record(&self, message: PeerMsg, to: Option<usize>) -> Output {
+        match (message, to) {
+            (PeerMsg::CommitNotice { slot, ballot, seq, deps, reqs }, None) => {
+                Output::CommitNotice { slot: slot.unpack(), ballot, contents: plain_contents(seq, &deps, &reqs) }
+            }
+            (PeerMsg::PreAcceptReply { slot, ballot, seq, deps }, Some(to)) => {
+                let Slot { status, contents, .. } = self.answering(slot);
+                let contents = Contents { seq, deps: deps.0, ..contents };
+                Output::PreAcceptReply { to, slot: slot.unpack(), ballot, status, contents }
+            }
+            (PeerMsg::AcceptReply { slot, ballot }, Some(to)) => {
+                let Slot { status, contents, .. } = self.answering(slot);
+                Output::AcceptReply { to, slot: slot.unpack(), ballot, status, contents }
+            }
+            (
+                PeerMsg::ExpPrepareReply {
+                    slot,
+                    new_ballot,
+                    voted_bal,
+                    voted_status,
+                    voted_seq,
+                    voted_deps,
+                    voted_reqs,
+                },
+                Some(to),
+            ) => Output::ExpPrepareReply {
+                to,
+                slot: slot.unpack(),
+                new_ballot,
+                ballot: voted_bal,
+                status: plain_status(voted_status),
+                contents: plain_contents(voted_seq, &voted_deps, &voted_reqs),
+            },
+            (message, to) => Output::Beyond(format!("{message:?} to {to:?}")),
+        }
+    }
+
+    /// The slot that a reply is about, which has what the reply lacks.
+    fn answering(&self, slot: SlotIdx) -> Slot {
+        self.slot(slot.unpack()).expect("a reply about a slot that is there")
     }
 
     /// The slots whose commands were handed to the state machine, in order.
@@ -287,28 +324,4 @@ fn log_record(entry: WalEntry) -> Output {
         }
     };
     Output::Log { status, slot: slot.unpack(), ballot, contents: plain_contents(seq, &deps, &reqs) }
-}
-
-fn message_record(message: PeerMsg, to: Option<ReplicaId>) -> Output {
-    match (message, to.map(usize::from)) {
-        (PeerMsg::CommitNotice { slot, ballot, seq, deps, reqs }, None) => {
-            Output::CommitNotice { slot: slot.unpack(), ballot, contents: plain_contents(seq, &deps, &reqs) }
-        }
-        (PeerMsg::PreAcceptReply { slot, ballot, seq, deps }, Some(to)) => {
-            Output::PreAcceptReply { to, slot: slot.unpack(), ballot, seq, deps: deps.0 }
-        }
-        (PeerMsg::AcceptReply { slot, ballot }, Some(to)) => Output::AcceptReply { to, slot: slot.unpack(), ballot },
-        (
-            PeerMsg::ExpPrepareReply { slot, new_ballot, voted_bal, voted_status, voted_seq, voted_deps, voted_reqs },
-            Some(to),
-        ) => Output::ExpPrepareReply {
-            to,
-            slot: slot.unpack(),
-            new_ballot,
-            ballot: voted_bal,
-            status: plain_status(voted_status),
-            contents: plain_contents(voted_seq, &voted_deps, &voted_reqs),
-        },
-        (message, to) => Output::Beyond(format!("{message:?} to {to:?}")),
-    }
 }

@@ -3,7 +3,7 @@ use mathlib.Core.Path.{_∙_, sym}
 use borrow.Author.Tests.{lt-leb, le-leb}
 use borrow.Author.Needs.{needs}
 use Rattle.base.specs.Refusals.{firstRefusal}
-use Rattle.table.specs.Bounds.{placeRefusal}
+use Rattle.bounds.specs.Bounds.{placeRefusal}
 use Rattle.attempts.specs.Refusal.{attemptRefusal}
 use Rattle.attempts.proofs.refusal.of_attempt.Statement.{statement}
 use Rattle.attempts.proofs.refusal.of_attempt.Tie as tie

@@ -3,9 +3,6 @@ use borrow.Author.Needs.{needs}
 use Rattle.host.proofs.messages.nj_pre_accept.Statement.{statement}
 use Rattle.host.proofs.messages.nj_pre_accept.Tie as tie
 
-message-requires : tie.Need-message-requires
-message-requires c κs = search needs
-
 propose-requires : tie.Need-propose-requires
 propose-requires c κs = search needs
 
@@ -16,10 +13,7 @@ same-length-2 : tie.Need-same-length-2
 same-length-2 c = search needs
 
 returns : tie.Need-returns
-returns c =
-    let s = c .before .before .before .before in
-    rw (s .before .before .before .message .ensures) at (s .propose .ensures)
+returns c = c .before .before .before .before .propose .ensures
 
 pub nj-pre-accept-spec : {M : Type 1} → statement M
-nj-pre-accept-spec =
-    tie.close (tie.spec message-requires propose-requires same-length same-length-2 returns)
+nj-pre-accept-spec = tie.close (tie.spec propose-requires same-length same-length-2 returns)

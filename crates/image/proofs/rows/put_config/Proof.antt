@@ -2,7 +2,8 @@
 use mathlib.Core.Path.{refl}
 use mathlib.Core.List.{[], _∷_}
 use Rattle.layout.proofs.Laying.{Laid, next, lay-same}
-use Rattle.image.specs.Tables.{byteFor, configBytes}
+use Rattle.layout.specs.Numbers.{byteFor}
+use Rattle.image.specs.Tables.{configBytes}
 use borrow.Author.Needs.{needs}
 use Rattle.image.proofs.rows.put_config.Statement.{statement}
 use Rattle.image.proofs.rows.put_config.Tie as tie

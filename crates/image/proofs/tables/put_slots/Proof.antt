@@ -9,7 +9,7 @@ use Rattle.layout.specs.Each.{eachBytes}
 use Rattle.layout.proofs.Laying.{lay-length}
 use Rattle.layout.proofs.EachLaws.{lay-turn}
 use Rattle.image.specs.Tables.{slotIn, slotsBytes}
-use Rattle.image.proofs.SlotLaws.{slot-length}
+use Rattle.slot_bytes.proofs.SlotLaws.{slot-length}
 use borrow.Author.Needs.{needs}
 use Rattle.image.proofs.tables.put_slots.Statement.{statement}
 use Rattle.image.proofs.tables.put_slots.Tie as tie

@@ -6,7 +6,7 @@ use Rattle.base.proofs.Loops.{mix}
 use Rattle.slots.specs.Slot.{nullSlot, blankSlot}
 use Rattle.layout.specs.Each.{eachAt}
 use Rattle.layout.proofs.EachLaws.{fill-turn, fill-end}
-use Rattle.image.specs.Slot.{slotAt}
+use Rattle.slot_bytes.specs.Slot.{slotAt}
 use Rattle.image.specs.Tables.{slotsAt}
 use borrow.Author.Needs.{needs}
 use Rattle.image.proofs.tables.slots_at.Statement.{statement}

@@ -1,10 +1,8 @@
 -- `layout::batches::batch_at` meets its contract: the requests passed so far are read, the others still none.
-use mathlib.Core.Path.{_≡_, refl, ap, _∙_}
-use mathlib.Core.List.{List}
+use mathlib.Core.Path.{_≡_, refl, _∙_}
 use Prim.Native.Nat.{_≤_, _-_, _+_}
-use lib.ListN.{drop, replicate, set}
+use lib.ListN.{drop, replicate}
 use Rattle.deps.specs.Batches.{noRequest}
-use Rattle.deps.specs.declared.batches.Request.{Request}
 use Rattle.base.proofs.Loops.{mix}
 use Rattle.layout.specs.Each.{eachAt}
 use Rattle.layout.specs.Batches.{requestAt}

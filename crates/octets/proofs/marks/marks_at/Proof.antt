@@ -1,9 +1,8 @@
 -- `octets::marks::marks_at` meets its contract: the marks passed so far are read, the others still unmarked.
 use mathlib.Core.Path.{_≡_, refl, ap, _∙_}
-use mathlib.Core.List.{List}
-use mathlib.Core.Bool.{Bool, false}
+use mathlib.Core.Bool.{false}
 use Prim.Native.Nat.{_≤_, _-_}
-use lib.ListN.{drop, replicate, set}
+use lib.ListN.{drop, replicate}
 use Rattle.base.proofs.Loops.{mix}
 use Rattle.layout.specs.Each.{eachAt}
 use Rattle.octets.specs.Marks.{markOf, markAt, marksAt}

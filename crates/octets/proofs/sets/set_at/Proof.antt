@@ -1,8 +1,7 @@
 -- `octets::sets::set_at` meets its contract: the rows passed so far are read, the others still empty.
-use mathlib.Core.Path.{_≡_, refl, ap, _∙_}
-use mathlib.Core.List.{List}
-use Prim.Native.Nat.{ℕ, _≤_, _-_, _+_}
-use lib.ListN.{drop, replicate, getD, set}
+use mathlib.Core.Path.{_≡_, refl, ap}
+use Prim.Native.Nat.{_≤_, _-_}
+use lib.ListN.{drop, replicate}
 use Rattle.deps.specs.Sets.{setOf}
 use Rattle.base.proofs.Loops.{mix}
 use Rattle.layout.specs.Each.{eachAt}

@@ -6,7 +6,7 @@ use borrow.Author.Needs.{needs}
 use Rattle.base.specs.Refusals.{firstRefusal, noSlot}
 use Rattle.base.proofs.Tests.{passed, failed}
 use Rattle.base.proofs.RefusalLaws.{append-refused, first-append-passed}
-use Rattle.table.specs.Bounds.{placeTests, placeRefusal}
+use Rattle.bounds.specs.Bounds.{placeTests, placeRefusal}
 use Rattle.table.specs.Table.{holds}
 use Rattle.table.specs.declared.place.Place.{Place}
 use Rattle.table.specs.declared.table.Table.{Table}

@@ -2,7 +2,7 @@
 use Rattle.proposing.specs.Proposals.{raisedBy, values}
 use Rattle.deps.specs.Sets.{unionOf}
 use Rattle.keys.specs.Columns.{identifyOf}
-use Rattle.table.specs.Highest.{highestOf}
+use Rattle.bounds.specs.Highest.{highestOf}
 use Prim.Native.Nat.{max, ℕ, suc, _-_, _+_}
 use mathlib.Core.Path.{_≡_, ap, _∙_}
 use native.Mathlib.Omega.{arith}

@@ -1,0 +1,3 @@
+pub mod BoundLaws
+pub mod OpenLaws
+pub mod HighestLaws

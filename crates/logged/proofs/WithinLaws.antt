@@ -1,0 +1,85 @@
+-- A log event keeps a table within the bounds.
+use mathlib.Core.Path.{_≡_}
+use mathlib.Core.Bool.{Bool, true, false, cond}
+use mathlib.Core.List.{List, []}
+use Prim.Native.Nat.{ℕ, _-_, _<_}
+use native.Mathlib.Omega.{arith}
+use Rattle.bounds.specs.Bounds.{tableFits}
+use Rattle.table.specs.Place.{placeOf}
+use Rattle.table.specs.Table.{barOf}
+use Rattle.table.specs.declared.place.Place.{Place}
+use Rattle.table.specs.declared.table.Table.{Table}
+use Rattle.bounds.proofs.BoundLaws.{table-fits-each}
+use Rattle.outcomes.specs.Outcome.{refused}
+use Rattle.outcomes.specs.declared.message.Message.{Message}
+use Rattle.outcomes.proofs.RefusalLaws.{Heard, Led, placed-row}
+use Rattle.handlers.specs.Replies.{acceptReply}
+use Rattle.handlers.proofs.CaseLaws.{WhenRefused, slotMarked, reply-cases, mark-cases}
+use Rattle.handlers.proofs.RefusedLaws.{heard-passed}
+use Rattle.handlers.proofs.WithinLaws.{kept-outcome, reply-keeps}
+use Rattle.attempts.specs.Attempt.{answerOf, attemptOn}
+use Rattle.logged.specs.Replies.{myReply, ownReply}
+use Rattle.logged.specs.Bars.{risenBar}
+use Rattle.logged.specs.Attempts.{isNotYet, attemptsOn}
+use Rattle.logged.specs.Committed.{tailsBelow, attemptedFrom, risenTable, onRisen}
+use Rattle.logged.specs.Logged.{loggedOf}
+use Rattle.logged.specs.declared.status.LogStatus.{LogStatus}
+use Rattle.logged.proofs.RefusedLaws.{table-cases}
+use Rattle.logged.proofs.BarLaws.{committed-cases}
+use Rattle.logged.proofs.AttemptsLaws.{InRows, attempts-keep}
+use Rattle.logged.proofs.TailLaws.{tails-in-rows}
+use Rattle.logged.proofs.CommittedLaws.{tail-column, risen-keeps}
+
+-- ---- an AcceptReply from myself
+
+-- a message from myself about a slot in the table is not refused
+pub own-reply-heard : (t : Table) (at : Place) (ballot : ℕ) → Led t at → Heard t (myReply t at ballot)
+own-reply-heard t at ballot led = record { placed = led .placed; peer = table-fits-each t (led .placed .within) .config-fits .mine }
+
+pub own-reply-taken : (t : Table) (at : Place) (ballot k : ℕ) → Led t at → acceptReply t (myReply t at ballot) ≡ refused k → ⊥
+own-reply-taken t at ballot k led e = rw e at says
+  where
+    m : Message
+    m = myReply t at ballot
+
+    says : WhenRefused (λ _. ⊥) (acceptReply t m)
+    says =
+        reply-cases (WhenRefused (λ _. ⊥)) t m
+        (λ l. omega (arith, heard-passed t m (own-reply-heard t at ballot led)))
+        (λ _ _. tt)
+        (λ _ _ _. mark-cases (WhenRefused (λ _. ⊥)) t at (slotMarked t m) (λ _. tt) (λ _. tt))
+
+own-keeps : (t : Table) (at : Place) (ballot : ℕ) → tableFits t ≡ true → tableFits (ownReply t at ballot .table) ≡ true
+unfolding ownReply
+own-keeps t at ballot h = kept-outcome t (acceptReply t (myReply t at ballot)) (reply-keeps t (myReply t at ballot)) h
+
+-- ---- a slot logged Committed
+
+-- the slots that are attempted once a row's bar has risen
+abbrev pub attempted : Table → ℕ → List Place
+attempted t row = attemptedFrom (risenTable t row) (placeOf row (risenBar t row - 1))
+
+attempted-in-rows : (t : Table) (tail : Place) → tail .row < 7 → tail .col < 32 → InRows (attemptedFrom t tail)
+unfolding attemptedFrom
+attempted-in-rows t tail l m = (l, m, go (isNotYet (answerOf t tail)))
+  where
+    go : (b : Bool) → InRows (cond b [] (tailsBelow (attemptOn t tail .table) 7))
+    go true = tt
+    go false = tails-in-rows (attemptOn t tail .table) 7 (omega arith)
+
+module _ (t : Table) (row : ℕ) (h : tableFits t ≡ true) (l : row < 7) (r : barOf t row < risenBar t row) where
+  pub risen-in-rows : InRows (attempted t row)
+  risen-in-rows = attempted-in-rows (risenTable t row) (placeOf row (risenBar t row - 1)) l (tail-column t row h l r)
+
+  on-risen-keeps : tableFits (onRisen t row .table) ≡ true
+  unfolding onRisen
+  on-risen-keeps = attempts-keep (risenTable t row) (attempted t row) (risen-keeps t row h l) risen-in-rows
+
+-- ---- the event
+
+pub logged-keeps : (t : Table) (at : Place) (status : LogStatus) (entries : ℕ) → tableFits t ≡ true → tableFits (loggedOf t at status entries .outcome .table) ≡ true
+unfolding attemptsOn
+logged-keeps t at status entries h =
+    table-cases t at entries status (λ u. tableFits u ≡ true) h
+    (λ _ _. own-keeps t at _ h)
+    (λ _ led. committed-cases t at (λ a. tableFits (a .table) ≡ true) (λ _. h) (λ _ r. on-risen-keeps t (at .row) h (placed-row (led .placed)) r))

@@ -1,0 +1,52 @@
+-- A log event: answer, table, output and order list in every case.
+use mathlib.Core.List.{List, []}
+use Prim.Native.Nat.{ℕ, zero, suc}
+use lib.ListN.{length}
+use lib.Seq.{sets}
+use Rattle.base.specs.declared.answer.Answer.the-variants.{Done}
+use Rattle.table.specs.Table.{slotOf}
+use Rattle.table.specs.declared.place.Place.{Place}
+use Rattle.table.specs.declared.table.Table.{Table}
+use Rattle.outcomes.specs.Outcome.{refused, outcome, outcomeOf}
+use Rattle.outcomes.specs.declared.outcome.Outcome.{Outcome}
+use Rattle.logged.specs.Refusal.{loggedRefusal}
+use Rattle.logged.specs.Replies.{preAcceptingOut, onAccepting}
+use Rattle.logged.specs.Committed.{onCommitted}
+use Rattle.logged.specs.declared.status.LogStatus.{LogStatus}
+use Rattle.logged.specs.declared.status.LogStatus.the-variants.{PreAccepting, Accepting, Committed}
+use Rattle.logged.specs.declared.logged.LogOutcome.{LogOutcome}
+
+-- ---- one that is not refused: Done
+
+abbrev pub outcomeOn : LogStatus → Table → Place → Outcome
+outcomeOn PreAccepting t at = outcome Done t (preAcceptingOut at (slotOf t at))
+outcomeOn Accepting t at = onAccepting t at
+outcomeOn Committed t at = outcome Done (onCommitted t at .table) []
+
+-- the slots that it runs
+abbrev pub entriesOn : LogStatus → Table → Place → List ℕ
+entriesOn PreAccepting t at = []
+entriesOn Accepting t at = []
+entriesOn Committed t at = onCommitted t at .wrote
+
+unfoldable pub loggedOn : LogStatus → Table → Place → LogOutcome
+loggedOn status t at = record { outcome = outcomeOn status t at; ran = length (entriesOn status t at) }
+
+unfoldable pub orderOn : LogStatus → Table → Place → List ℕ → List ℕ
+orderOn status t at list = sets list 0 (entriesOn status t at)
+
+-- ---- the entry: a refusal's number, of which 0 is none, leaves table and list as they were
+
+abbrev pub loggedOr : ℕ → LogStatus → Table → Place → LogOutcome
+loggedOr zero status t at = loggedOn status t at
+loggedOr (suc k) status t at = record { outcome = outcomeOf t (refused (suc k)); ran = 0 }
+
+abbrev pub orderOr : ℕ → LogStatus → Table → Place → List ℕ → List ℕ
+orderOr zero status t at list = orderOn status t at list
+orderOr (suc k) status t at list = list
+
+unfoldable pub loggedOf : Table → Place → LogStatus → ℕ → LogOutcome
+loggedOf t at status entries = loggedOr (loggedRefusal t at entries) status t at
+
+unfoldable pub loggedOrder : Table → Place → LogStatus → List ℕ → List ℕ
+loggedOrder t at status list = orderOr (loggedRefusal t at (length list)) status t at list
