@@ -18,10 +18,6 @@ use Rattle.logged.specs.declared.tails.Ran.{Ran}
 
 -- ---- in parts
 
-pub attempts-none : (t : Table) → attemptsOn t [] ≡ record { table = t; wrote = [] }
-unfolding attemptsOn
-attempts-none t = refl
-
 pub attempts-one : (t : Table) (at : Place) → attemptsOn t (at ∷ []) ≡ record { table = attemptOn t at .table; wrote = written (answerOf t at) t at }
 unfolding attemptsOn
 attempts-one t at = rw append-nil refl

@@ -82,7 +82,7 @@ module _ (t : Table) (row : ℕ) (h : tableFits t ≡ true) (l : row < 7) where
       (λ w. omega (arith, w .1, ap (lenOf t) (w .0)))
       (set-either (t .bars) row bar r)
 
-  pub with-bar-keeps : (bar : ℕ) → bar ≤ lenOf t row → tableFits (withBar t row bar) ≡ true
+  with-bar-keeps : (bar : ℕ) → bar ≤ lenOf t row → tableFits (withBar t row bar) ≡ true
   with-bar-keeps bar b =
       let w = table-fits-each t h in
       each-table-fits (withBar t row bar)

@@ -28,23 +28,23 @@ module _ (t : Table) (row : ℕ) where
   committedAt col = isCommitted (slotNo t (32 * row + col))
 
   -- from a column on, to the row's end
-  abbrev pub risenFrom : ℕ → ℕ
-  risenFrom col = firstFrom col (lenOf t row - col) committedAt
+  abbrev pub searchFrom : ℕ → ℕ
+  searchFrom col = firstFrom col (lenOf t row - col) committedAt
 
-  pub risen-begins : risenBar t row ≡ risenFrom (barOf t row)
+  pub search-begins : risenBar t row ≡ searchFrom (barOf t row)
   unfolding risenBar
-  risen-begins = refl
+  search-begins = refl
 
-  pub risen-stops : (col : ℕ) → col < lenOf t row → rankOf (slotNo t (32 * row + col) .status) < 3 → risenFrom col ≡ col
-  risen-stops col l r = first-stops committedAt col (lenOf t row - col) (omega arith) (lt-leb _ _ r)
+  pub search-stops : (col : ℕ) → col < lenOf t row → rankOf (slotNo t (32 * row + col) .status) < 3 → searchFrom col ≡ col
+  search-stops col l r = first-stops committedAt col (lenOf t row - col) (omega arith) (lt-leb _ _ r)
 
-  pub risen-goes : (col : ℕ) → col < lenOf t row → 3 ≤ rankOf (slotNo t (32 * row + col) .status) → risenFrom col ≡ risenFrom (col + 1)
-  risen-goes col l r =
+  pub search-goes : (col : ℕ) → col < lenOf t row → 3 ≤ rankOf (slotNo t (32 * row + col) .status) → searchFrom col ≡ searchFrom (col + 1)
+  search-goes col l r =
       let m : lenOf t row - col - 1 ≡ lenOf t row - (col + 1) = omega arith in
       first-goes committedAt col (lenOf t row - col) (omega arith) (le-leb _ _ r) ∙ ap (λ (n : ℕ). firstFrom (col + 1) n committedAt) m
 
-  pub risen-ends : (col : ℕ) → lenOf t row ≤ col → risenFrom col ≡ col
+  pub search-ends : (col : ℕ) → lenOf t row ≤ col → searchFrom col ≡ col
   unfolding firstFrom
-  risen-ends col l =
+  search-ends col l =
       let m : lenOf t row - col ≡ 0 = omega arith in
       rw m refl

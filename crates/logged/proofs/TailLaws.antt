@@ -1,7 +1,7 @@
 -- The rows' slots below their bars: as they are gathered, and as they are attempted.
 use mathlib.Core.Path.{_≡_, refl}
 use mathlib.Core.Bool.{Bool, true, false, cond, _&&_}
-use mathlib.Core.List.{List, _++_}
+use mathlib.Core.List.{List, [], _∷_, _++_}
 use Prim.Native.Nat.{ℕ, zero, suc, _+_, _*_, _-_, _≤_, _<_}
 use native.Mathlib.Omega.{arith}
 use lib.Dec.{leb}
@@ -15,7 +15,8 @@ use Rattle.table.specs.declared.table.Table.{Table}
 use Rattle.attempts.specs.Attempt.{attemptOn, orderOn}
 use Rattle.attempts.specs.declared.attempt.Attempted.{Attempted}
 use Rattle.logged.specs.Attempts.{attemptsOn, ranFrom}
-use Rattle.logged.specs.Committed.{isJustCommitted, isTail, tailNumber, tailNumbers, placeIn, tailsBelow}
+use Rattle.logged.specs.Committed.{isJustCommitted, isTail, tailIn, tailsBelow}
+use Rattle.logged.specs.Tails.{tailNumber, tailNumbers, placeIn}
 use Rattle.logged.specs.declared.tails.Ran.{Ran}
 use Rattle.logged.proofs.AttemptsLaws.{InRows, rows-append, Written, written-none, attempt-written}
 
@@ -38,32 +39,51 @@ module _ (t : Table) where
   unfolding tailNumbers
   tail-at row l = below-at 7 (tailNumber t) row 0 l
 
+  tail-bar : (row : ℕ) → isTail t row ≡ true → (1 ≤ barOf t row) × (barOf t row ≤ 32)
+  tail-bar row e =
+      let w = both-true (leb 1 (barOf t row)) (leb (barOf t row) 32 && isJustCommitted (slotNo t (32 * row + (barOf t row - 1)))) e in
+      (leb-true 1 (barOf t row) (w .0), leb-true (barOf t row) 32 (both-true (leb (barOf t row) 32) (isJustCommitted (slotNo t (32 * row + (barOf t row - 1)))) (w .1) .0))
+
   pub tail-low : (row : ℕ) → tailNumber t row ≤ 32
   unfolding tailNumber
   tail-low row = go (isTail t row) refl
     where
       go : (b : Bool) → isTail t row ≡ b → cond b (barOf t row) 0 ≤ 32
-      go true e =
-          let low = both-true (leb 1 (barOf t row)) (leb (barOf t row) 32 && isJustCommitted (slotNo t (32 * row + (barOf t row - 1)))) e .1 in
-          leb-true (barOf t row) 32 (both-true (leb (barOf t row) 32) (isJustCommitted (slotNo t (32 * row + (barOf t row - 1)))) low .0)
+      go true e = tail-bar row e .1
       go false e = omega arith
+
+  -- the number stands for the slot
+  some-place : (row bar : ℕ) → 1 ≤ bar → placeIn row bar ≡ placeOf row (bar - 1) ∷ []
+  some-place row zero l = absurd (omega arith)
+  some-place row (suc col) l =
+      let m : suc col - 1 ≡ col = omega arith in
+      rw m refl
+
+  tail-place : (row : ℕ) → placeIn row (tailNumber t row) ≡ tailIn t row
+  unfolding tailNumber
+  tail-place row = go (isTail t row) refl
+    where
+      go : (b : Bool) → isTail t row ≡ b → placeIn row (cond b (barOf t row) 0) ≡ cond b (placeOf row (barOf t row - 1) ∷ []) []
+      go true e = some-place row (barOf t row) (tail-bar row e .0)
+      go false e = refl
 
 -- ---- attempted
 
-pub place-in-rows : (row number : ℕ) → row < 7 → number ≤ 32 → InRows (placeIn row number)
+place-in-rows : (row number : ℕ) → row < 7 → number ≤ 32 → InRows (placeIn row number)
 place-in-rows row zero l m = tt
 place-in-rows row (suc col) l m = (l, omega arith, tt)
 
 pub tails-in-rows : (t : Table) (n : ℕ) → n ≤ 7 → InRows (tailsBelow t n)
 unfolding tailsBelow
 tails-in-rows t zero l = tt
-tails-in-rows t (suc n) l = rows-append (tailsBelow t n) (placeIn n (tailNumber t n)) (tails-in-rows t n (omega arith)) (place-in-rows n (tailNumber t n) (omega arith) (tail-low t n))
+tails-in-rows t (suc n) l =
+    rows-append (tailsBelow t n) (tailIn t n) (tails-in-rows t n (omega arith)) (rw (tail-place t n) at (place-in-rows n (tailNumber t n) (omega arith) (tail-low t n)))
 
 pub tails-next : (t : Table) (n : ℕ) → tailsBelow t n ++ placeIn n (tailNumber t n) ≡ tailsBelow t (n + 1)
 unfolding tailsBelow
 tails-next t n =
     let e : n + 1 ≡ suc n = omega arith in
-    rw e refl
+    rw (e, tail-place t n) refl
 
 module _ (t : Table) (row : ℕ) (list : List ℕ) (from : ℕ) where
   pub tail-none : (number : ℕ) → number < 1 → Written t (placeIn row number) list from (record { table = t; end = from }) list

@@ -3,7 +3,6 @@ use mathlib.Core.List.{List, [], _∷_, _++_}
 use mathlib.Core.Bool.{Bool, cond, _&&_}
 use lib.Dec.{ltb, leb, eqb}
 use Prim.Native.Nat.{ℕ, zero, suc, _+_, _*_, _-_}
-use Rattle.base.specs.Below.{listBelow}
 use Rattle.base.specs.Status.{rankOf}
 use Rattle.base.specs.declared.status.Status.the-variants.{Committed}
 use Rattle.slots.specs.declared.slot.Slot.{Slot}
@@ -17,29 +16,21 @@ use Rattle.logged.specs.Attempts.{Attempts, isNotYet, attemptsOn}
 
 -- ---- each row's slot below the bar that is Committed
 
--- no more than Committed
+-- Committed, and not run
 abbrev pub isJustCommitted : Slot → Bool
 isJustCommitted s = eqb (rankOf (s .status)) (rankOf Committed)
 
--- there is one; it is Committed, and has not run
+-- a row that has a slot right below its bar, which is so; a row has 32 columns
 abbrev pub isTail : Table → ℕ → Bool
 isTail t row = leb 1 (barOf t row) && (leb (barOf t row) 32 && isJustCommitted (slotNo t (32 * row + (barOf t row - 1))))
 
--- 0 for nothing, c + 1 for column c
-unfoldable pub tailNumber : Table → ℕ → ℕ
-tailNumber t row = cond (isTail t row) (barOf t row) 0
-
-unfoldable pub tailNumbers : Table → List ℕ
-tailNumbers t = listBelow 7 (tailNumber t)
-
-abbrev pub placeIn : ℕ → ℕ → List Place
-placeIn row zero = []
-placeIn row (suc col) = placeOf row col ∷ []
+abbrev pub tailIn : Table → ℕ → List Place
+tailIn t row = cond (isTail t row) (placeOf row (barOf t row - 1) ∷ []) []
 
 -- in row order, those of the rows 0, 1, .., n - 1
 unfoldable pub tailsBelow : Table → ℕ → List Place
 tailsBelow t zero = []
-tailsBelow t (suc n) = tailsBelow t n ++ placeIn n (tailNumber t n)
+tailsBelow t (suc n) = tailsBelow t n ++ tailIn t n
 
 -- ---- the event
 

@@ -4,4 +4,5 @@ pub mod Replies
 pub mod Bars
 pub mod Attempts
 pub mod Committed
+pub mod Tails
 pub mod Logged

@@ -6,12 +6,12 @@ use borrow.Author.Needs.{needs}
 use Rattle.table.specs.Table.{lenOf}
 use Rattle.bounds.proofs.BoundLaws.{table-fits-each, len-at-most}
 use Rattle.logged.specs.Bars.{risenBar}
-use Rattle.logged.proofs.RisenLaws.{risenFrom, risen-begins, risen-stops, risen-goes, risen-ends}
+use Rattle.logged.proofs.RisenLaws.{searchFrom, search-begins, search-stops, search-goes, search-ends}
 use Rattle.logged.proofs.bars.risen.Statement.{statement}
 use Rattle.logged.proofs.bars.risen.Tie as tie
 
 abbrev Inv-loop : tie.InvT-loop
-Inv-loop row table col₀ col = (col ≤ lenOf table row) × (risenBar table row ≡ risenFrom table row col)
+Inv-loop row table col₀ col = (col ≤ lenOf table row) × (risenBar table row ≡ searchFrom table row col)
 
 abbrev μ-loop : tie.MeasureT-loop
 μ-loop row table col₀ col = lenOf table row - col
@@ -25,7 +25,7 @@ element-copy-out-col c = search needs
 loop-holds : tie.Need-loop-holds Inv-loop μ-loop
 loop-holds c =
     let a = c .before .args in
-    (table-fits-each (a .t1) (c .before .pre .0) .bars-fit (a .row) (c .before .pre .1), risen-begins (a .t1) (a .row))
+    (table-fits-each (a .t1) (c .before .pre .0) .bars-fit (a .row) (c .before .pre .1), search-begins (a .t1) (a .row))
 
 mul-if1 : tie.Need-mul-if1 Inv-loop μ-loop
 mul-if1 c = search needs
@@ -59,7 +59,7 @@ returns c =
     let i = c .before .before .before in
     let l = i .before .before .loop in
     let a = i .before .before .before .before .args in
-    sym (l .inv .1 ∙ risen-stops (a .t1) (a .row) (l .col) (i .if1 .taken) (omega (arith, c .before .rank .ensures)))
+    sym (l .inv .1 ∙ search-stops (a .t1) (a .row) (l .col) (i .if1 .taken) (omega (arith, c .before .rank .ensures)))
 
 add-col : tie.Need-add-col Inv-loop μ-loop
 add-col c = omega (arith, low (c .before .before .before))
@@ -72,13 +72,13 @@ loop-again c =
     let i = c .before .before .before in
     let l = i .before .before .loop in
     let a = i .before .before .before .before .args in
-    (omega arith, l .inv .1 ∙ risen-goes (a .t1) (a .row) (l .col) (i .if1 .taken) (omega (arith, c .before .rank .ensures)))
+    (omega arith, l .inv .1 ∙ search-goes (a .t1) (a .row) (l .col) (i .if1 .taken) (omega (arith, c .before .rank .ensures)))
 
 returns-2 : tie.Need-returns-2 Inv-loop μ-loop
 returns-2 c =
     let l = c .before .before .loop in
     let a = c .before .before .before .before .args in
-    sym (l .inv .1 ∙ risen-ends (a .t1) (a .row) (l .col) (omega arith))
+    sym (l .inv .1 ∙ search-ends (a .t1) (a .row) (l .col) (omega arith))
 
 pub risen-spec : {M : Type 1} → statement M
 risen-spec =

@@ -8,7 +8,8 @@ use lib.ListN.{length, getD}
 use lib.Seq.{length-sets}
 use borrow.Author.Needs.{needs}
 use Rattle.logged.specs.Attempts.{attemptsOn}
-use Rattle.logged.specs.Committed.{tailNumber, placeIn, tailsBelow}
+use Rattle.logged.specs.Committed.{tailsBelow}
+use Rattle.logged.specs.Tails.{tailNumber, placeIn}
 use Rattle.logged.proofs.AttemptsLaws.{Written, written-more, written-fits, written-room}
 use Rattle.logged.proofs.TailLaws.{tail-at, tail-low, tails-begin, tails-in-rows, tails-next, written-row}
 use Rattle.logged.proofs.tails.attempt_tails.Statement.{statement}

@@ -1,7 +1,7 @@
 -- `logged::tails::tail` meets its contract: a bar, and a slot below it that is Committed.
 use borrow.Author.Tests.{le-leb, lt-leb, eq-eqb, ne-eqb}
 use borrow.Author.Needs.{needs}
-use Rattle.logged.specs.Committed.{tailNumber}
+use Rattle.logged.specs.Tails.{tailNumber}
 use Rattle.logged.proofs.tails.tail.Statement.{statement}
 use Rattle.logged.proofs.tails.tail.Tie as tie
 
