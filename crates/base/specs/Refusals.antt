@@ -35,9 +35,17 @@ noSlot = 7
 abbrev pub shortOrder : ℕ
 shortOrder = 8
 
--- a number that stands for no log status
+-- a trace that ends inside a header or event
+abbrev pub cut : ℕ
+cut = 9
+
+-- a trace number not in shortest form or over 64 bits, an unknown tag, kind or log status, or a batch count over 4
 abbrev pub unreadable : ℕ
 unreadable = 10
+
+-- a trace over 65,536 bytes
+abbrev pub tooLong : ℕ
+tooLong = 11
 
 -- the limit of a sequence
 abbrev pub sequenceLimit : ℕ

@@ -15,6 +15,10 @@ pub const NO_SLOT: u64 = 7; // a log event or Lead for a slot not in the table
 
 pub const SHORT_ORDER: u64 = 8; // an order list of fewer than 224 entries
 
-pub const UNREADABLE: u64 = 10; // a number that stands for no log status
+pub const CUT: u64 = 9; // a trace that ends inside a header or event
+
+pub const UNREADABLE: u64 = 10; // a number not in shortest form or over 64 bits, an unknown tag, kind or log status, a batch count over 4
+
+pub const TOO_LONG: u64 = 11; // a trace over 65,536 bytes
 
 pub const SEQUENCE_LIMIT: u64 = 4294967295;

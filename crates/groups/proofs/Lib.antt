@@ -1,0 +1,4 @@
+pub mod StepLaws
+pub mod CursorLaws
+pub mod NumberLaws
+pub mod ReadLaws
