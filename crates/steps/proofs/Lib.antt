@@ -1,0 +1,3 @@
+mod ChangeLaws
+pub mod KeepLaws
+pub mod RoomLaws
