@@ -33,13 +33,13 @@ use Rattle.logged.proofs.RefusedLaws.{logged-logged, logged-cases, tabl
 -- ---- the first that does not pass
 
 -- k is the first of from, from + 1, .. that does not pass, or the next after so many that pass
-record First (from many : ℕ) (passes : ℕ → Bool) (k : ℕ) : Type 0 where
-  at-least : from ≤ k
-  at-most : k ≤ from + many
-  over : (c : ℕ) → from ≤ c → c < k → passes c ≡ true
-  stops : k < from + many → passes k ≡ false
+pub record First (from many : ℕ) (passes : ℕ → Bool) (k : ℕ) : Type 0 where
+  pub at-least : from ≤ k
+  pub at-most : k ≤ from + many
+  pub over : (c : ℕ) → from ≤ c → c < k → passes c ≡ true
+  pub stops : k < from + many → passes k ≡ false
 
-first-from : (from many : ℕ) (passes : ℕ → Bool) → First from many passes (firstFrom from many passes)
+pub first-from : (from many : ℕ) (passes : ℕ → Bool) → First from many passes (firstFrom from many passes)
 unfolding firstFrom
 first-from from zero passes = record { at-least = omega arith; at-most = omega arith; over = λ c l m. absurd (omega arith); stops = λ l. absurd (omega arith) }
 first-from from (suc many) passes = go (passes from) refl (firstFrom (suc from) many passes) (first-from (suc from) many passes)

@@ -10,12 +10,12 @@ use Rattle.table.specs.declared.table.Table.{Table}
 use Rattle.logged.specs.Bars.{isCommitted, firstFrom, risenBar}
 
 module _ (passes : ℕ → Bool) where
-  first-stops : (from many : ℕ) → 0 < many → passes from ≡ false → firstFrom from many passes ≡ from
+  pub first-stops : (from many : ℕ) → 0 < many → passes from ≡ false → firstFrom from many passes ≡ from
   unfolding firstFrom
   first-stops from zero l e = absurd (omega arith)
   first-stops from (suc many) l e = rw e refl
 
-  first-goes : (from many : ℕ) → 0 < many → passes from ≡ true → firstFrom from many passes ≡ firstFrom (from + 1) (many - 1) passes
+  pub first-goes : (from many : ℕ) → 0 < many → passes from ≡ true → firstFrom from many passes ≡ firstFrom (from + 1) (many - 1) passes
   unfolding firstFrom
   first-goes from zero l e = absurd (omega arith)
   first-goes from (suc many) l e =

@@ -1,0 +1,4 @@
+pub mod Decimal
+pub mod Words
+pub mod Line
+pub mod Bars
