@@ -1,0 +1,73 @@
+-- One event of a run as it is read, done and written: what each return of a turn says.
+use mathlib.Core.Path.{_≡_, ap, _∙_}
+use mathlib.Core.List.{List}
+use Prim.Native.Nat.{ℕ, _+_, _<_, _≤_}
+use native.Mathlib.Omega.{arith}
+use borrow.Author.Tests.{eq-eqb, ne-eqb}
+use lib.ListN.{length, take, replicate, length-take}
+use Rattle.logged.specs.declared.logged.LogOutcome.{LogOutcome}
+use Rattle.steps.specs.Calls.{callOf}
+use Rattle.steps.specs.Step.{stepOf, stepOrder}
+use Rattle.steps.proofs.RoomLaws.{slots-run}
+use Rattle.reading.specs.Held.{held}
+use Rattle.reading.specs.Events.{eventIn}
+use Rattle.reading.specs.declared.events.EventRead.{EventRead}
+use Rattle.reading.proofs.HeldLaws.{call-back, read-held, read-held-order}
+use Rattle.lines.specs.Line.{lineText}
+use Rattle.trace.specs.Turn.{refusalText, stoppedRun, eventText, foundBy, turnOf, turnText}
+use Rattle.trace.specs.declared.turn.Run.{Run}
+
+module _ (s : List ℕ) (run : Run) (r : EventRead) (e : r ≡ eventIn (foundBy s run)) where
+  found-refusal : foundBy s run .cursor .refusal ≡ r .cursor .refusal
+  found-refusal = rw e
+
+  -- ---- an event that cannot be read
+
+  pub turn-stopped : 0 < r .cursor .refusal → (x : Run) → x ≡ stoppedRun (length s) run (r .cursor .refusal) → x ≡ turnOf s run
+  unfolding turnOf
+  turn-stopped h x f =
+      let n = ne-eqb (foundBy s run .cursor .refusal) 0 (λ z. omega (arith, found-refusal)) in
+      rw (n, found-refusal) f
+
+  pub text-stopped : 0 < r .cursor .refusal → refusalText run (r .cursor .refusal) ≡ turnText s run
+  unfolding turnText
+  text-stopped h =
+      let n = ne-eqb (foundBy s run .cursor .refusal) 0 (λ z. omega (arith, found-refusal)) in
+      rw (n, found-refusal)
+
+  -- ---- one that can
+
+  call-is : callOf (r .event) ≡ held (foundBy s run .call)
+  call-is = rw e (call-back (held (foundBy s run .call)))
+
+  module _ (did : LogOutcome) (order : List ℕ) (d : did ≡ stepOf (run .table) (callOf (r .event)) 224)
+      (o : order ≡ stepOrder (run .table) (callOf (r .event)) (replicate 224 0)) where
+    did-is : did ≡ stepOf (run .table) (foundBy s run .call) 224
+    did-is =
+        rw call-is at d ∙ read-held (run .table .config .n) s (record { at = run .at; refusal = 0 }) (run .table) 224
+
+    order-is : order ≡ stepOrder (run .table) (foundBy s run .call) (replicate 224 0)
+    order-is =
+        rw call-is at o ∙ read-held-order (run .table .config .n) s (record { at = run .at; refusal = 0 }) (run .table) (replicate 224 0)
+
+    -- the list has all that ran
+    pub ran-fits : did .ran ≤ length order
+    ran-fits =
+        let t = run .table in
+        let k = foundBy s run .call in
+        rw (order-is, did-is) (omega (arith, length-take (stepOf t k 224 .ran) (stepOrder t k (replicate 224 0)), slots-run t k))
+
+    pub line-is : lineText (run .events + 1) (did .outcome .answer) (take (did .ran) order) ≡ eventText run (foundBy s run)
+    line-is = rw (order-is, did-is)
+
+    module _ (h : r .cursor .refusal ≡ 0) where
+      pub text-went : lineText (run .events + 1) (did .outcome .answer) (take (did .ran) order) ≡ turnText s run
+      unfolding turnText
+      text-went = rw (eq-eqb (foundBy s run .cursor .refusal) 0 (found-refusal ∙ h)) line-is
+
+      pub turn-went : (end : ℕ) → end ≡ run .end + length (lineText (run .events + 1) (did .outcome .answer) (take (did .ran) order))
+          → record { table = did .outcome .table; at = r .cursor .at; events = run .events + 1; end = end } ≡ turnOf s run
+      unfolding turnOf
+      turn-went end f =
+          let g : end ≡ run .end + length (eventText run (foundBy s run)) = f ∙ ap (λ (l : List ℕ). run .end + length l) line-is in
+          rw (eq-eqb (foundBy s run .cursor .refusal) 0 (found-refusal ∙ h), g, did-is, e)

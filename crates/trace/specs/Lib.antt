@@ -1,0 +1,3 @@
+pub mod Trace
+pub mod Turn
+pub mod Run
