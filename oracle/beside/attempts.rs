@@ -32,10 +32,14 @@ pub fn next(run: &Run, aim: &Aim, left: usize, random: &mut Random) -> Event {
     kept(event, &run.table, random)
 }
 
-/// A run of the list, whole.
+/// A run, whole.
+pub fn drawn(aim: &Aim, random: &mut Random) -> Result<Run, String> {
+    run::whole(&aim.plan, random, |run, left, random| next(run, aim, left, random))
+}
+
+/// A run of the list.
 pub fn listed(random: &mut Random) -> Result<Run, String> {
-    let aim = Aim::listed(random);
-    run::whole(&aim.plan, random, |run, left, random| next(run, &aim, left, random))
+    drawn(&Aim::listed(random), random)
 }
 
 /// One slot that waits for what never comes holds up all that lead to it, so most runs have none.

@@ -3,6 +3,7 @@ use crate::bytes::{self, Answer, DONE, SET, WORD};
 use crate::cases::{Case, code_of, numbers_of};
 use crate::image::{self, Record};
 use crate::run::{Happened, Run};
+use summerset::drive;
 use summerset::plain::{Contents, Deps, Event, Kind, Output, Request, Slot, SlotAt, Table};
 
 /// What each line holds, for its reader.
@@ -43,7 +44,7 @@ impl Line {
     }
 
     fn put_set(&mut self, deps: &Deps) {
-        self.put(deps.iter().map(|d| d.map_or(0, |col| col as u64 + 1)));
+        self.put(drive::numbers_of(deps));
     }
 
     fn put_replicas(&mut self, replicas: &[usize]) {
@@ -175,6 +176,13 @@ impl Line {
     fn text(&self) -> String {
         self.0.iter().map(u64::to_string).collect::<Vec<_>>().join(" ")
     }
+}
+
+/// An event's own numbers, in a line as in a trace.
+pub fn event_numbers(event: &Event) -> Vec<u64> {
+    let mut line = Line::default();
+    line.put_event(event);
+    line.0
 }
 
 /// Of a call.

@@ -39,9 +39,14 @@ impl Run {
     }
 }
 
-/// A run of the list, whole.
+/// A run, whole.
+pub fn drawn(plan: &Plan, random: &mut Random) -> Result<Run, String> {
+    whole(plan, random, |run, _, random| run.next(random))
+}
+
+/// A run of the list.
 pub fn listed(random: &mut Random) -> Result<Run, String> {
-    whole(&Plan::listed(random), random, |run, _, random| run.next(random))
+    drawn(&Plan::listed(random), random)
 }
 
 /// Any column, so that rows are filled; full batches and any key.

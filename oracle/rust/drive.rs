@@ -17,6 +17,11 @@ pub fn deps_of(numbers: &[u64]) -> Deps {
     numbers.iter().map(|d| d.checked_sub(1).map(|col| col as usize)).collect()
 }
 
+/// The numbers of which a set is.
+pub fn numbers_of(deps: &Deps) -> Vec<u64> {
+    deps.iter().map(|d| d.map_or(0, |col| col as u64 + 1)).collect()
+}
+
 fn done_if(acted: bool) -> Answer {
     if acted { Answer::Done } else { Answer::Ignored }
 }

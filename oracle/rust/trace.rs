@@ -6,7 +6,7 @@ use crate::refusals;
 /// is.
 pub type Refusal = u8;
 
-const LONGEST: usize = 65_536;
+pub const LONGEST: usize = 65_536;
 
 pub struct Reader<'a> {
     trace: &'a [u8],
