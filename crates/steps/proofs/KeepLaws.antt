@@ -26,8 +26,8 @@ use Rattle.steps.proofs.ChangeLaws.{Touched, as-was, filled-to, put-in,
 touched-config : {t : Table} {at : Place} {u : Table} → Touched t at u → u .config ≡ t .config
 touched-config as-was = refl
 touched-config {t} {at} (filled-to l) = nulls-config t at
-touched-config (put-in s w) = touched-config w
-touched-config {t} {at} (stored-in {u} s w) = stored-config u at s ∙ touched-config w
+touched-config (put-in s n w) = touched-config w
+touched-config {t} {at} (stored-in {u} s n w) = stored-config u at s ∙ touched-config w
 
 pub step-config : (t : Table) (call : Call) → after t call .config ≡ t .config
 step-config t (propose phase p) = touched-config (proposed-touches phase t p)
@@ -48,14 +48,14 @@ pub empty-sized : (config : Config) → Sized (emptyTable config)
 unfolding emptyTable
 empty-sized config = record { rows = refl; columns = refl }
 
-same-sized : (t u : Table) → u .lens ≡ t .lens → u .keys ≡ t .keys → Sized t → Sized u
+pub same-sized : (t u : Table) → u .lens ≡ t .lens → u .keys ≡ t .keys → Sized t → Sized u
 same-sized t u e f s = record { rows = ap length e ∙ s .rows; columns = ap (λ (k : Keys). length (k .cols)) f ∙ s .columns }
 
 touched-sized : {t : Table} {at : Place} {u : Table} → Touched t at u → Sized t → Sized u
 touched-sized as-was s = s
 touched-sized {t} {at} (filled-to l) s = record { rows = nulls-lens-length t at ∙ s .rows; columns = ap (λ (k : Keys). length (k .cols)) (nulls-keys t at) ∙ s .columns }
-touched-sized (put-in r w) s = let z = touched-sized w s in record { rows = z .rows; columns = z .columns }
-touched-sized {t} {at} (stored-in {u} r w) s =
+touched-sized (put-in r n w) s = let z = touched-sized w s in record { rows = z .rows; columns = z .columns }
+touched-sized {t} {at} (stored-in {u} r n w) s =
     let z = touched-sized w s in
     record { rows = ap length (stored-lens u at r) ∙ z .rows; columns = stored-keys-length u at r ∙ z .columns }
 

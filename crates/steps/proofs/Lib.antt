@@ -1,3 +1,3 @@
-mod ChangeLaws
+pub mod ChangeLaws
 pub mod KeepLaws
 pub mod RoomLaws

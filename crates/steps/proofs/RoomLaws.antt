@@ -107,15 +107,15 @@ module _ (t : Table) (at : Place) (l : at .col < 32) (short : lenOf t (at .row) 
       (λ w. rw (w .1, kept-held (w .0)) refl)
       (null-or-kept t from to i m)
 
-nulls-run : (t : Table) (at : Place) → at .col < 32 → (i : ℕ) → i < 224 → hasRun (nullsTo t at) i ≡ hasRun t i
+pub nulls-run : (t : Table) (at : Place) → at .col < 32 → (i : ℕ) → i < 224 → hasRun (nullsTo t at) i ≡ hasRun t i
 nulls-run t at l i m = nulls-cases t at (λ u. hasRun u i ≡ hasRun t i) (λ _. refl) (λ short. grown-run t at l short i m)
 
 touched-run : {t : Table} {at : Place} {u : Table} → Touched t at u → (i : ℕ) → i < 224 → (i ≡ indexOf at → ⊥) → hasRun u i ≡ hasRun t i
 unfolding storedAt
 touched-run as-was i m n = refl
 touched-run {t} {at} (filled-to l) i m n = nulls-run t at l i m
-touched-run {t} {at} (put-in {u} s w) i m n = ap (λ (x : Slot). isHeldNo u i && isExecuted x) (put-elsewhere u at s i n) ∙ touched-run w i m n
-touched-run {t} {at} (stored-in {u} s w) i m n = ap (λ (x : Slot). isHeldNo u i && isExecuted x) (put-elsewhere u at s i n) ∙ touched-run w i m n
+touched-run {t} {at} (put-in {u} s b w) i m n = ap (λ (x : Slot). isHeldNo u i && isExecuted x) (put-elsewhere u at s i n) ∙ touched-run w i m n
+touched-run {t} {at} (stored-in {u} s b w) i m n = ap (λ (x : Slot). isHeldNo u i && isExecuted x) (put-elsewhere u at s i n) ∙ touched-run w i m n
 
 -- so at most one slot waits that had run
 touched-room : {t : Table} {at : Place} {u : Table} → Touched t at u → unrun u ≤ unrun t + 1
@@ -193,10 +193,11 @@ record Slots (many : ℕ) (list : List ℕ) : Type 0 where
   slot : (k : ℕ) → Has k list → k < 224
 
 -- what is written in a list from its first entry on is its front
+pub front : (list wrote : List ℕ) → length wrote ≤ length list → take (length wrote) (sets list 0 wrote) ≡ wrote
+front list wrote room = ap (take (length wrote)) (rw zero-add at (sets-eq wrote list 0 (omega arith))) ∙ take-append-seam wrote _
+
 front-slots : (list wrote : List ℕ) → length wrote ≤ length list → ((k : ℕ) → Has k wrote → k < 224) → Slots (length wrote) (take (length wrote) (sets list 0 wrote))
-front-slots list wrote room each =
-    let e : take (length wrote) (sets list 0 wrote) ≡ wrote = ap (take (length wrote)) (rw zero-add at (sets-eq wrote list 0 (omega arith))) ∙ take-append-seam wrote _ in
-    rw e (record { as-many = refl; slot = each })
+front-slots list wrote room each = rw (front list wrote room) (record { as-many = refl; slot = each })
 
 none-slots : (list : List ℕ) → Slots 0 (take 0 list)
 none-slots list = record { as-many = refl; slot = λ k i. absurd (has-none k i) }

@@ -1,0 +1,203 @@
+-- Each event of a trace is a list of moves, on a table within its bounds, where the call keeps what is committed.
+--
+-- A new event joins here: it gets its own `-moves` lemma, its case in `step-moves`, and nothing above notices. The lemma has to
+-- show that from the table before to the table after there are moves which write what `slotsRun` says of the call, in that order:
+--   - a call that runs nothing and moves no bar is one move, by `quiet-moves`: no slot has run after it that had not before, the
+--     bars are as they were, and no slot is written;
+--   - a bar that rises over committed slots is one move, by `rise-alters`;
+--   - attempts are moves by `attempt-moves` and `attempts-moves`;
+--   - moves one after the other are moves, by `moves-join`.
+-- It also needs its cases in `step-sized` and `step-keeps` of crate steps: what the moves ask of the table stays so.
+use mathlib.Core.Path.{_≡_, refl, sym, ap, _∙_}
+use mathlib.Core.List.{List, []}
+use mathlib.Core.Logic.{_⊎_, inl, inr, ⊎-elim}
+use mathlib.Core.Bool.{Bool, true, false, _&&_}
+use Prim.Native.Nat.{ℕ, zero, suc, _+_, _*_, _/_, _%_, _<_, _≤_}
+use native.Mathlib.Decide.{ℕ-discrete, decLt}
+use native.Mathlib.Omega.{arith}
+use borrow.Author.Tests.{lt-ltb}
+use lib.ListN.{length, take, replicate}
+use lib.Seq.{take-append-seam}
+use Rattle.base.proofs.Loops.{both-true}
+use Rattle.slots.specs.Slot.{isExecuted}
+use Rattle.slots.specs.declared.slot.Slot.{Slot}
+use Rattle.bounds.specs.Bounds.{tableFits}
+use Rattle.table.specs.Place.{indexOf}
+use Rattle.table.specs.Table.{lenOf, barOf, slotNo, slotOf, putAt, storedAt}
+use Rattle.table.specs.declared.place.Place.{Place}
+use Rattle.table.specs.declared.table.Table.{Table}
+use Rattle.table.proofs.SlotReads.{put-elsewhere, stored-bars, nulls-bars}
+use Rattle.bounds.proofs.BoundLaws.{table-fits-each, put-either}
+use Rattle.outcomes.proofs.RefusalLaws.{Led, placed-row}
+use Rattle.attempts.specs.Refusal.{attemptRefusal}
+use Rattle.attempts.specs.Attempt.{answerOf, written, attemptOn, orderOn, attemptOr, attemptOf, attemptOrder}
+use Rattle.attempts.proofs.RefusedLaws.{attempt-tried, refused-table}
+use Rattle.attempts.proofs.AttemptLaws.{unrun-falls}
+use Rattle.attempts.specs.Reads.{isHeldNo, hasRun, depsOf, seqsOf}
+use Rattle.logged.specs.Bars.{isCommitted, risenBar}
+use Rattle.logged.specs.Attempts.{attemptsOn}
+use Rattle.logged.specs.Committed.{risenTable, onRisen, onCommitted}
+use Rattle.logged.specs.Status.{statusNumber}
+use Rattle.logged.specs.Refusal.{loggedRefusal}
+use Rattle.logged.specs.Logged.{entriesOn, loggedOn, loggedOrder}
+use Rattle.logged.specs.declared.status.LogStatus.{LogStatus}
+use Rattle.logged.specs.declared.status.LogStatus.the-variants.{PreAccepting, Accepting, Committed}
+use Rattle.logged.proofs.RefusedLaws.{logged-logged, logged-cases, refused-leaves}
+use Rattle.logged.proofs.BarLaws.{set-either, risen-at-least, risen-at-most, risen-over, committed-cases, another-status-no-bar}
+use Rattle.logged.proofs.OnceLaws.{others-run-none, logged-number, logged-list}
+use Rattle.logged.proofs.CommittedLaws.{risen-keeps}
+use Rattle.logged.proofs.WithinLaws.{attempted, risen-in-rows}
+use Rattle.steps.specs.Calls.{Call, propose, reply, prepare, log, try, leadAt}
+use Rattle.steps.specs.Step.{stepOf, after, slotsRun}
+use Rattle.steps.proofs.ChangeLaws.{Touched, as-was, filled-to, put-in, stored-in, proposed-touches, reply-touches, prepare-touches, lead-touches}
+use Rattle.steps.proofs.KeepLaws.{Sized, step-sized}
+use Rattle.steps.proofs.RoomLaws.{nulls-run, unrun-most, front}
+use Rattle.copies.specs.Copies.{keepsCommitted, Ran}
+use Rattle.copies.proofs.Moves.{Alters, alters, Moves, still, moves-one, moves-join}
+use Rattle.copies.proofs.SettledLaws.{held-low, ran-held, alters-slots}
+use Rattle.copies.proofs.AttemptMoves.{attempt-moves, attempts-moves}
+
+-- ---- a bar rises over what is committed
+
+module _ (t : Table) (row : ℕ) (h : tableFits t ≡ true) (l : row < 7) where
+  -- a slot below the risen bar was below it before, or the bar has passed it
+  risen-below : (i : ℕ) → i % 32 < barOf (risenTable t row) (i / 32) → (i % 32 < barOf t (i / 32)) ⊎ ((isHeldNo t i && isCommitted (slotNo t i)) ≡ true)
+  risen-below i b = ⊎-elim
+      (λ same. inl (omega arith))
+      (λ w. go (w .0) (omega (arith, w .1)) (decLt (i % 32) (barOf t (i / 32))))
+      (set-either (t .bars) row (risenBar t row) (i / 32))
+    where
+      go : i / 32 ≡ row → i % 32 < risenBar t row → Dec (i % 32 < barOf t (i / 32)) → (i % 32 < barOf t (i / 32)) ⊎ ((isHeldNo t i && isCommitted (slotNo t i)) ≡ true)
+      go e c (yes low) = inl low
+      go e c (no n) =
+          let fits = risen-at-most t row (table-fits-each t h .bars-fit row l) in
+          let held : isHeldNo t i ≡ true = lt-ltb (i % 32) (lenOf t (i / 32)) (rw e (omega arith)) in
+          let at : 32 * row + i % 32 ≡ i = omega arith in
+          inr (rw (held, ← at) (risen-over t row (i % 32) (omega (arith, ap (barOf t) e)) c))
+
+  rise-alters : Alters t (risenTable t row)
+  unfolding depsOf seqsOf
+  rise-alters = record {
+    committed = λ i c. c;
+    same = λ i c. record { seq = refl; deps = λ r m. refl };
+    ran = λ i r. r;
+    unrun = λ i r. r;
+    bars = λ r. ⊎-elim (λ same. omega arith) (λ w. omega (arith, w .1, ap (barOf t) (w .0), risen-at-least t row)) (set-either (t .bars) row (risenBar t row) r);
+    below = risen-below;
+  }
+
+-- ---- Logged Committed
+
+committed-moves : (t : Table) (at : Place) → Sized t → Led t at → Moves t (onCommitted t at .wrote) (onCommitted t at .table)
+unfolding attemptsOn onRisen
+committed-moves t at s led =
+    let h = led .placed .within in
+    let l = placed-row (led .placed) in
+    let row = at .row in
+    committed-cases t at (λ a. Moves t (a .wrote) (a .table)) (λ _. still)
+    (λ _ r. moves-join (moves-one (alters (rise-alters t row h l))) (attempts-moves (risenTable t row) (attempted t row) (record { rows = s .rows; columns = s .columns }) (risen-keeps t row h l) (risen-in-rows t row h l r)))
+
+-- ---- a call that runs nothing and moves no bar
+
+quiet-moves : (t : Table) (call : Call) → Sized t → keepsCommitted t (after t call) ≡ true
+    → ((i : ℕ) → Ran (after t call) i → Ran t i) → after t call .bars ≡ t .bars → stepOf t call 224 .ran ≡ 0
+    → Moves t (slotsRun t call) (after t call)
+quiet-moves t call s keeps unrun bars none = rw none (moves-one (alters (alters-slots t (after t call) s keeps unrun bars)))
+
+-- ---- a handler
+
+touched-bars : {t : Table} {at : Place} {u : Table} → Touched t at u → u .bars ≡ t .bars
+touched-bars as-was = refl
+touched-bars {t} {at} (filled-to l) = nulls-bars t at
+touched-bars (put-in s b w) = touched-bars w
+touched-bars {t} {at} (stored-in {u} s b w) = stored-bars u at s ∙ touched-bars w
+
+-- a slot put runs nothing
+put-unrun : (u : Table) (at : Place) (s : Slot) → (isExecuted s ≡ true → isExecuted (slotOf u at) ≡ true) → (i : ℕ) → Ran (putAt u at s) i → Ran u i
+put-unrun u at s before i r =
+    let w = both-true (isHeldNo u i) (isExecuted (slotNo (putAt u at s) i)) r in
+    elim (ℕ-discrete i (indexOf at)) [
+      | no n ↦ rw (w .0) (rw (put-elsewhere u at s i n) at (w .1))
+      | yes e ↦ rw (w .0) (⊎-elim (λ same. rw same at (w .1)) (λ is. rw e (before (rw is at (w .1)))) (put-either u at s i))
+    ]
+
+touched-unrun : {t : Table} {at : Place} {u : Table} → Touched t at u → (i : ℕ) → i < 224 → Ran u i → Ran t i
+unfolding storedAt
+touched-unrun as-was i l r = r
+touched-unrun {t} {at} (filled-to c) i l r = rw (nulls-run t at c i l) at r
+touched-unrun {t} {at} (put-in {u} s b w) i l r = touched-unrun w i l (put-unrun u at s b i r)
+touched-unrun {t} {at} (stored-in {u} s b w) i l r = touched-unrun w i l (put-unrun u at s b i r)
+
+handler-moves : (t : Table) (call : Call) (at : Place) → Sized t → keepsCommitted t (after t call) ≡ true → Touched t at (after t call) → stepOf t call 224 .ran ≡ 0
+    → Moves t (slotsRun t call) (after t call)
+handler-moves t call at s keeps touched none =
+    quiet-moves t call s keeps
+    (λ i r. touched-unrun touched i (held-low (step-sized t call s) i (ran-held (after t call) i r .0)) r)
+    (touched-bars touched) none
+
+-- ---- Logged
+
+module _ (t : Table) (at : Place) where
+  -- what is written to the list is what the event runs
+  logged-slots : (status : LogStatus) → loggedRefusal t at 224 ≡ 0 → slotsRun t (log status at) ≡ entriesOn status t at
+  logged-slots status e =
+      ap (λ k. take k (loggedOrder t at status (replicate 224 0))) (logged-number t at status (replicate 224 0) e)
+      ∙ ap (take (length (entriesOn status t at))) (logged-list t at status (replicate 224 0) e)
+      ∙ take-append-seam (entriesOn status t at) _
+
+  logged-table : loggedRefusal t at 224 ≡ 0 → after t (log Committed at) ≡ onCommitted t at .table
+  unfolding loggedOn
+  logged-table e = logged-cases t at 224 Committed (λ r. r .outcome .table ≡ onCommitted t at .table) (λ l. absurd (omega arith)) (λ _. refl)
+
+  log-committed-moves : Sized t → Moves t (slotsRun t (log Committed at)) (after t (log Committed at))
+  log-committed-moves s = elim (decLt 0 (loggedRefusal t at 224)) [
+    | yes l ↦ let w = refused-leaves t at 224 Committed l in rw (w .2, w .0) still
+    | no n ↦
+        let e : loggedRefusal t at 224 ≡ 0 = omega arith in
+        rw (logged-slots Committed e, logged-table e) (committed-moves t at s (logged-logged t at 224 e .1))
+  ]
+
+  -- another status than Committed runs nothing
+  log-quiet-moves : (status : LogStatus) → (status ≡ Committed → ⊥) → stepOf t (log status at) 224 .ran ≡ 0 → Sized t → keepsCommitted t (after t (log status at)) ≡ true
+      → Moves t (slotsRun t (log status at)) (after t (log status at))
+  log-quiet-moves status n none s keeps =
+      quiet-moves t (log status at) s keeps (λ i r. rw (others-run-none t at 224 status n i) at r) (another-status-no-bar t at status 224 n) none
+
+  log-moves : (status : LogStatus) → Sized t → keepsCommitted t (after t (log status at)) ≡ true → Moves t (slotsRun t (log status at)) (after t (log status at))
+  unfolding loggedOn
+  log-moves PreAccepting = log-quiet-moves PreAccepting (λ q. omega (arith, ap statusNumber q)) (logged-cases t at 224 PreAccepting (λ r. r .ran ≡ 0) (λ _. refl) (λ _. refl))
+  log-moves Accepting = log-quiet-moves Accepting (λ q. omega (arith, ap statusNumber q)) (logged-cases t at 224 Accepting (λ r. r .ran ≡ 0) (λ _. refl) (λ _. refl))
+  log-moves Committed = λ s _. log-committed-moves s
+
+  -- ---- Attempt
+
+  -- what is written to the list is what the attempt runs
+  pub tried-slots : attemptRefusal t at 224 ≡ 0 → slotsRun t (try at) ≡ written (answerOf t at) t at
+  unfolding attemptOf attemptOrder attemptOn orderOn
+  tried-slots e =
+      let w = attempt-tried t at 224 e in
+      let room : length (written (answerOf t at) t at) ≤ 224 = omega (arith, unrun-falls t at (w .within) (w .row) (w .col), unrun-most t) in
+      rw e (front (replicate 224 0) (written (answerOf t at) t at) room)
+
+  pub tried-table : attemptRefusal t at 224 ≡ 0 → after t (try at) ≡ attemptOn t at .table
+  unfolding attemptOf
+  tried-table e = ap (λ n. attemptOr n t at .table) e
+
+  try-moves : Sized t → Moves t (slotsRun t (try at)) (after t (try at))
+  try-moves s = elim (decLt 0 (attemptRefusal t at 224)) [
+    | yes l ↦ let w = refused-table t at 224 l in rw (w .1, w .0) still
+    | no n ↦
+        let e : attemptRefusal t at 224 ≡ 0 = omega arith in
+        let w = attempt-tried t at 224 e in
+        rw (tried-slots e, tried-table e) (attempt-moves t at s (w .within) (w .row) (w .col))
+  ]
+
+-- ---- every event
+
+pub step-moves : (t : Table) (call : Call) → Sized t → keepsCommitted t (after t call) ≡ true → Moves t (slotsRun t call) (after t call)
+step-moves t (propose phase p) s k = handler-moves t (propose phase p) (p .message .at) s k (proposed-touches phase t p) refl
+step-moves t (reply m) s k = handler-moves t (reply m) (m .at) s k (reply-touches t m) refl
+step-moves t (prepare m) s k = handler-moves t (prepare m) (m .at) s k (prepare-touches t m) refl
+step-moves t (log status at) s k = log-moves t at status s k
+step-moves t (try at) s k = try-moves t at s
+step-moves t (leadAt at) s k = handler-moves t (leadAt at) at s k (lead-touches t at) refl

@@ -1,0 +1,232 @@
+-- What a run is made of: moves of two kinds, an alteration that keeps what is committed, and an attempt that runs slots.
+-- A table reached by moves from an empty one satisfies what Reached says, and two such tables run slots in the same order.
+use mathlib.Core.Path.{_≡_, refl, sym, subst}
+use mathlib.Core.List.{List, [], _++_, append-nil, append-assoc}
+use mathlib.Core.Logic.{_⊎_, inl, inr, ⊎-elim, _↔_}
+use mathlib.Core.Bool.{Bool, true, false}
+use Prim.Native.Nat.{ℕ, _/_, _%_, _≤_, _<_}
+use native.Mathlib.Omega.{arith}
+use native.Mathlib.Decide.{ℕ-discrete, decLt}
+use lib.ListN.{getD}
+use Rattle.table.specs.Table.{barOf}
+use Rattle.table.specs.declared.table.Table.{Table}
+use Rattle.leads.specs.Depends.{numberIn, Depends, named, earlier, Leads, here, step}
+use Rattle.leads.proofs.PathLaws.{leads-trans, leads-on}
+use Rattle.order.specs.Listed.{Has, Once, none, Precedes}
+use Rattle.order.specs.Paper.{Mates}
+use Rattle.order.proofs.ListLaws.{clash, split, has-none, has-or, has-left, has-right, has-either, once-both, precedes-has, precedes-left, precedes-right, precedes-across, precedes-one-way}
+use Rattle.attempts.specs.Reads.{hasRun, depsOf, seqsOf}
+use Rattle.copies.specs.Copies.{holdsCommitted, Ran, LeadsTo, SameOrder}
+
+-- ---- a slot
+
+abbrev pub Committed : Table → ℕ → Type 0
+Committed t i = holdsCommitted t i ≡ true
+
+abbrev pub Below : Table → ℕ → Type 0
+Below t i = i % 32 < barOf t (i / 32)
+
+-- slot i has the same sequence and dependencies
+pub record Same (t u : Table) (i : ℕ) : Type 0 where
+  pub seq : getD (seqsOf t) i 0 ≡ getD (seqsOf u) i 0
+  pub deps : (row : ℕ) → row < 7 → numberIn (depsOf t) i row ≡ numberIn (depsOf u) i row
+
+pub same-sym : {t u : Table} {i : ℕ} → Same t u i → Same u t i
+same-sym s = record { seq = sym (s .seq); deps = λ row l. sym (s .deps row l) }
+
+-- ---- the order of slots that have run
+
+-- inside a component: by sequence, then row and column
+abbrev pub Key : List ℕ → ℕ → ℕ → Type 0
+Key seq i j = (getD seq i 0 < getD seq j 0) ⊎ ((getD seq i 0 ≡ getD seq j 0) × (i < j))
+
+pub record Ordered (t : Table) (w : List ℕ) : Type 0 where
+  -- two slots of one component stand by their key
+  pub inner : (i j : ℕ) → Has i w → Has j w → Mates (depsOf t) i j → Key (seqsOf t) i j → Precedes i j w
+  -- a slot stands after those that it leads to
+  pub outer : (i j : ℕ) → Has i w → Has j w → LeadsTo t i j → (LeadsTo t j i → ⊥) → Precedes j i w
+
+-- ---- the moves
+
+-- what is committed stays, nothing runs, and no bar falls or rises over what is not committed
+pub record Alters (t u : Table) : Type 0 where
+  pub committed : (i : ℕ) → Committed t i → Committed u i
+  pub same : (i : ℕ) → Committed t i → Same t u i
+  pub ran : (i : ℕ) → Ran t i → Ran u i
+  pub unrun : (i : ℕ) → Ran u i → Ran t i
+  pub bars : (row : ℕ) → barOf t row ≤ barOf u row
+  pub below : (i : ℕ) → Below u i → Below t i ⊎ Committed u i
+
+-- slot s and all that it leads to are below the bars; those that had not run are written and run
+pub record Runs (t : Table) (s : ℕ) (w : List ℕ) (u : Table) : Type 0 where
+  pub ready : (i : ℕ) → LeadsTo t s i → Below t i
+  pub only : (i : ℕ) → Has i w → LeadsTo t s i × (hasRun t i ≡ false)
+  pub whole : (i : ℕ) → LeadsTo t s i → hasRun t i ≡ false → Has i w
+  pub once : Once w
+  pub ordered : Ordered t w
+  pub marked : (i : ℕ) → Has i w → Ran u i
+  pub others : (i : ℕ) → (Has i w → ⊥) → hasRun u i ≡ hasRun t i
+  pub committed : (i : ℕ) → Committed t i → Committed u i
+  pub deps : depsOf u ≡ depsOf t
+  pub seqs : seqsOf u ≡ seqsOf t
+  pub bars : (row : ℕ) → barOf u row ≡ barOf t row
+
+pub data Move (t : Table) : List ℕ → Table → Type 0 where
+  alters : {u : Table} → Alters t u → Move t [] u
+  runs : {w : List ℕ} {u : Table} (s : ℕ) → Runs t s w u → Move t w u
+
+-- any number of moves, with all that they write
+pub data Moves (t : Table) : List ℕ → Table → Type 0 where
+  still : Moves t [] t
+  then : {w x : List ℕ} {u v : Table} → Moves t w u → Move u x v → Moves t (w ++ x) v
+
+pub moves-one : {t u : Table} {w : List ℕ} → Move t w u → Moves t w u
+moves-one m = then still m
+
+pub moves-join : {t u v : Table} {w x : List ℕ} → Moves t w u → Moves u x v → Moves t (w ++ x) v
+moves-join {w = w} p still = rw append-nil p
+moves-join {w = w} p (then {w = a} {x = b} q m) = rw (← append-assoc w a b) (then (moves-join p q) m)
+
+-- ---- paths
+
+pub depends-same : {t u : Table} {i j : ℕ} → Same t u i → Depends (depsOf t) i j → Depends (depsOf u) i j
+depends-same {i = i} {j = j} s (named l e) = named l (rw (← s .deps (j / 32) l) e)
+depends-same s (earlier e f) = earlier e f
+
+-- from slots that depend only on each other, and on which the tables are the same, paths are the same
+pub leads-same : {t u : Table} (P : ℕ → Type 0) → ((i j : ℕ) → P i → Depends (depsOf t) i j → P j) → ((i : ℕ) → P i → Same t u i)
+    → {i j : ℕ} → P i → LeadsTo t i j → LeadsTo u i j × P j
+leads-same P closed same p (here e) = (here e, subst P e p)
+leads-same {u = u} P closed same {i = i} p (step {j = k} d l) =
+    let r = leads-same {u = u} P closed same (closed i k p d) l in
+    (step (depends-same (same i p) d) (r .0), r .1)
+
+-- ---- what holds of a table that moves have reached, and of what they have written
+
+pub record Reached (h : List ℕ) (t : Table) : Type 0 where
+  pub ran : (i : ℕ) → Has i h → Ran t i
+  pub listed : (i : ℕ) → Ran t i → Has i h
+  pub once : Once h
+  pub closed : (i j : ℕ) → Ran t i → Depends (depsOf t) i j → Ran t j
+  pub low : (i : ℕ) → Ran t i → Below t i
+  pub settled : (i : ℕ) → Below t i → Committed t i
+  pub ordered : Ordered t h
+
+-- nothing has run, and the bars are at 0
+pub reached-empty : (t : Table) → ((i : ℕ) → Ran t i → ⊥) → ((row : ℕ) → barOf t row ≡ 0) → Reached [] t
+reached-empty t unrun low = record {
+  ran = λ i m. absurd (has-none i m);
+  listed = λ i r. absurd (unrun i r);
+  once = none;
+  closed = λ i j r d. absurd (unrun i r);
+  low = λ i r. absurd (unrun i r);
+  settled = λ i b. absurd (omega (arith, low (i / 32)));
+  ordered = record { inner = λ i j m. absurd (has-none i m); outer = λ i j m. absurd (has-none i m) };
+}
+
+-- a slot that has run is committed
+pub ran-committed : {h : List ℕ} {t : Table} → Reached h t → (i : ℕ) → Ran t i → Committed t i
+ran-committed r i x = r .settled i (r .low i x)
+
+-- what is ordered stays so where no slot that has run is altered
+ordered-still : {h : List ℕ} {t u : Table} → Reached h t → ((i : ℕ) → Ran t i → Same t u i) → Ordered u h
+ordered-still {h} {t} {u} r s = record {
+  inner = λ i j m k p v. r .ordered .inner i j m k (back i j m (p .0), back j i k (p .1)) (key i j m k v);
+  outer = λ i j m k p n. r .ordered .outer i j m k (back i j m p) (λ q. n (forth j i k q));
+}
+  where
+    forth : (i j : ℕ) → Has i h → LeadsTo t i j → LeadsTo u i j
+    forth i j m p = leads-same {u = u} (Ran t) (r .closed) s (r .ran i m) p .0
+
+    back : (i j : ℕ) → Has i h → LeadsTo u i j → LeadsTo t i j
+    back i j m p = leads-same {u = t} (Ran t) (λ x y a d. r .closed x y a (depends-same (same-sym (s x a)) d)) (λ x a. same-sym (s x a)) (r .ran i m) p .0
+
+    key : (i j : ℕ) → Has i h → Has j h → Key (seqsOf u) i j → Key (seqsOf t) i j
+    key i j m k v = rw (s i (r .ran i m) .seq, s j (r .ran j k) .seq) v
+
+reached-alters : {h : List ℕ} {t u : Table} → Reached h t → Alters t u → Reached h u
+reached-alters {h} {t} {u} r a = record {
+  ran = λ i m. a .ran i (r .ran i m);
+  listed = λ i x. r .listed i (a .unrun i x);
+  once = r .once;
+  closed = λ i j x d. a .ran j (r .closed i j (a .unrun i x) (depends-same (same-sym (same i (a .unrun i x))) d));
+  low = λ i x. omega (arith, r .low i (a .unrun i x), a .bars (i / 32));
+  settled = λ i b. ⊎-elim (λ c. a .committed i (r .settled i c)) (λ c. c) (a .below i b);
+  ordered = ordered-still r same;
+}
+  where
+    same : (i : ℕ) → Ran t i → Same t u i
+    same i x = a .same i (ran-committed r i x)
+
+module _ {h w : List ℕ} {t u : Table} {s : ℕ} (r : Reached h t) (d : Runs t s w u) where
+  -- slots of before, and those that the attempt has written
+  apart : (i : ℕ) → Has i h → Has i w → ⊥
+  apart i m k = clash (hasRun t i) (r .ran i m) (d .only i k .1)
+
+  still-run : (i : ℕ) → Ran t i → Ran u i
+  still-run i x = rw (d .others i (apart i (r .listed i x))) x
+
+  then-run : (i : ℕ) → Has i (h ++ w) → Ran u i
+  then-run i m = ⊎-elim (λ k. still-run i (r .ran i k)) (d .marked i) (has-either i h w m)
+
+  then-listed : (i : ℕ) → Ran u i → Has i (h ++ w)
+  then-listed i x = ⊎-elim (λ k. has-right i h w k) (λ n. has-left i h w (r .listed i (rw (d .others i n) at x))) (has-or i w)
+
+  -- the same paths and keys
+  same : (i : ℕ) → Same t u i
+  same i = record { seq = rw (d .seqs) refl; deps = λ row l. rw (d .deps) refl }
+
+  old-order : Ordered u h
+  old-order = ordered-still r (λ i _. same i)
+
+  new-order : Ordered u w
+  new-order = record { inner = λ i j. rw (d .deps, d .seqs) (d .ordered .inner i j); outer = λ i j. rw (d .deps) (d .ordered .outer i j) }
+
+  -- a slot that had run leads to none that had not
+  never : (i j : ℕ) → Has i h → Has j w → LeadsTo u i j → ⊥
+  never i j m k p =
+      let l : LeadsTo t i j = rw (d .deps) at p in
+      apart j (r .listed j (leads-same {u = t} (Ran t) (r .closed) (λ x _. record { seq = refl; deps = λ _ _. refl }) (r .ran i m) l .1)) k
+
+  run-inner : (i j : ℕ) → Has i h ⊎ Has i w → Has j h ⊎ Has j w → Mates (depsOf u) i j → Key (seqsOf u) i j → Precedes i j (h ++ w)
+  run-inner i j (inl m) (inl k) p v = precedes-left i j h w (old-order .inner i j m k p v)
+  run-inner i j (inl m) (inr k) p v = absurd (never i j m k (p .0))
+  run-inner i j (inr m) (inl k) p v = absurd (never j i k m (p .1))
+  run-inner i j (inr m) (inr k) p v = precedes-right i j h w (new-order .inner i j m k p v)
+
+  run-outer : (i j : ℕ) → Has i h ⊎ Has i w → Has j h ⊎ Has j w → LeadsTo u i j → (LeadsTo u j i → ⊥) → Precedes j i (h ++ w)
+  run-outer i j (inl m) (inl k) p n = precedes-left j i h w (old-order .outer i j m k p n)
+  run-outer i j (inl m) (inr k) p n = absurd (never i j m k p)
+  run-outer i j (inr m) (inl k) p n = precedes-across j i h w k m
+  run-outer i j (inr m) (inr k) p n = precedes-right j i h w (new-order .outer i j m k p n)
+
+  -- what a slot that was written depends on has run
+  run-closed : (i j : ℕ) → Has i h ⊎ Has i w → Depends (depsOf t) i j → Ran u j
+  run-closed i j (inl m) e = still-run j (r .closed i j (r .ran i m) e)
+  run-closed i j (inr m) e = ⊎-elim (still-run j) (λ n. d .marked j (d .whole j (leads-on (d .only i m .0) e) n)) (split (hasRun t j))
+
+  run-low : (i : ℕ) → Has i h ⊎ Has i w → Below u i
+  run-low i (inl m) = omega (arith, d .bars (i / 32), r .low i (r .ran i m))
+  run-low i (inr m) = omega (arith, d .bars (i / 32), d .ready i (d .only i m .0))
+
+  reached-runs : Reached (h ++ w) u
+  reached-runs = record {
+    ran = then-run;
+    listed = then-listed;
+    once = once-both h w (r .once) (d .once) apart;
+    closed = λ i j x e. run-closed i j (has-either i h w (then-listed i x)) (rw (d .deps) at e);
+    low = λ i x. run-low i (has-either i h w (then-listed i x));
+    settled = λ i b. d .committed i (r .settled i (omega (arith, d .bars (i / 32))));
+    ordered = record {
+      inner = λ i j m k. run-inner i j (has-either i h w m) (has-either j h w k);
+      outer = λ i j m k. run-outer i j (has-either i h w m) (has-either j h w k);
+    };
+  }
+
+reached-move : {h w : List ℕ} {t u : Table} → Reached h t → Move t w u → Reached (h ++ w) u
+reached-move {h} r (alters a) = rw append-nil (reached-alters r a)
+reached-move r (runs s d) = reached-runs r d
+
+pub reached-moves : {h w : List ℕ} {t u : Table} → Reached h t → Moves t w u → Reached (h ++ w) u
+reached-moves {h} r still = rw append-nil r
+reached-moves {h} r (then {w = w} {x = x} p m) = rw (← append-assoc h w x) (reached-move (reached-moves r p) m)

@@ -1,0 +1,46 @@
+-- A run from an empty table is a list of moves.
+use mathlib.Core.Path.{_≡_}
+use mathlib.Core.List.{List, [], _∷_}
+use mathlib.Core.Bool.{true}
+use Prim.Native.Nat.{ℕ, _%_, _/_}
+use native.Mathlib.Omega.{arith}
+use borrow.Author.Tests.{ltb-true}
+use Rattle.base.specs.declared.config.Config.{Config}
+use Rattle.base.proofs.Loops.{both-true}
+use Rattle.bounds.proofs.OpenLaws.{open-empty}
+use Rattle.table.specs.Table.{emptyTable, lenOf}
+use Rattle.table.specs.declared.table.Table.{Table}
+use Rattle.steps.specs.Calls.{Call}
+use Rattle.steps.specs.Step.{after}
+use Rattle.steps.proofs.KeepLaws.{Sized, empty-sized, step-sized}
+use Rattle.copies.specs.Copies.{tableAfter, history, keepsAll, Copy, begun, ends, ran, isSteady, Ran}
+use Rattle.copies.proofs.Moves.{Moves, still, moves-join, Reached, reached-empty, reached-moves}
+use Rattle.copies.proofs.SettledLaws.{ran-held}
+use Rattle.copies.proofs.EventMoves.{step-moves}
+
+pub run-sized : (t : Table) (calls : List Call) → Sized t → Sized (tableAfter t calls)
+unfolding tableAfter
+run-sized t [] s = s
+run-sized t (call ∷ calls) s = run-sized (after t call) calls (step-sized t call s)
+
+run-moves : (t : Table) (calls : List Call) → Sized t → keepsAll t calls ≡ true → Moves t (history t calls) (tableAfter t calls)
+unfolding tableAfter history keepsAll
+run-moves t [] s k = still
+run-moves t (call ∷ calls) s k =
+    let w = both-true _ _ k in
+    moves-join (step-moves t call s (w .0)) (run-moves (after t call) calls (step-sized t call s) (w .1))
+
+-- ---- from an empty table
+
+-- no slot is in it
+empty-unrun : (c : Config) (i : ℕ) → Ran (emptyTable c) i → ⊥
+empty-unrun c i r = omega (arith, ltb-true (i % 32) (lenOf (emptyTable c) (i / 32)) (ran-held (emptyTable c) i r .0), open-empty c .no-len (i / 32))
+
+pub copy-sized : (c : Copy) → Sized (ends c)
+copy-sized c = run-sized (begun c) (c .calls) (empty-sized (c .config))
+
+-- a copy whose run keeps what is committed is reached by moves
+pub copy-reached : (c : Copy) → isSteady c ≡ true → Reached (ran c) (ends c)
+copy-reached c s =
+    reached-moves (reached-empty (begun c) (empty-unrun (c .config)) (open-empty (c .config) .no-bar))
+    (run-moves (begun c) (c .calls) (empty-sized (c .config)) s)

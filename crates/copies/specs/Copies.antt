@@ -1,0 +1,149 @@
+-- Two copies: what is asked of their runs, and what is claimed. Slot i is the one of row i / 32 and column i % 32.
+-- All that is asked is a test, so a program could make it.
+use mathlib.Core.Path.{_≡_}
+use mathlib.Core.List.{List, [], _∷_, _++_}
+use mathlib.Core.Logic.{_⊎_, _↔_}
+use mathlib.Core.Bool.{Bool, true, false, not, _&&_, _||_}
+use Prim.Native.Nat.{ℕ, _/_, _%_, _<_}
+use lib.Dec.{leb, eqb}
+use Rattle.base.specs.Below.{allBelow}
+use Rattle.base.specs.Status.{rankOf}
+use Rattle.base.specs.declared.answer.Answer.the-variants.{Refused}
+use Rattle.base.specs.declared.config.Config.{Config}
+use Rattle.votes.specs.Contents.{contentsOf, sameContents}
+use Rattle.slots.specs.declared.slot.Slot.{Slot}
+use Rattle.table.specs.Place.{indexOf}
+use Rattle.table.specs.Table.{emptyTable, barOf, slotNo}
+use Rattle.table.specs.declared.place.Place.{Place}
+use Rattle.table.specs.declared.table.Table.{Table}
+use Rattle.leads.specs.Depends.{Leads}
+use Rattle.order.specs.Listed.{Has, Once, Precedes}
+use Rattle.attempts.specs.Reads.{isHeldNo, hasRun, depsOf}
+use Rattle.logged.specs.Bars.{isCommitted}
+use Rattle.steps.specs.Calls.{Call, try}
+use Rattle.steps.specs.Step.{answerTo, after, slotsRun}
+
+-- ---- a table
+
+-- slot i is in the table and committed; one that has run counts as committed
+abbrev pub holdsCommitted : Table → ℕ → Bool
+holdsCommitted t i = isHeldNo t i && isCommitted (slotNo t i)
+
+-- equal contents: sequence, dependencies, batch
+abbrev pub sameSlot : Slot → Slot → Bool
+sameSlot s r = sameContents (contentsOf (s .seq) (s .deps) (s .batch)) (contentsOf (r .seq) (r .deps) (r .batch))
+
+-- slot i, if t has it committed, has the same contents in u, and no lower status
+abbrev pub keepsSlot : Table → Table → ℕ → Bool
+keepsSlot t u i =
+    not (holdsCommitted t i)
+    || (isHeldNo u i && (leb (rankOf (slotNo t i .status)) (rankOf (slotNo u i .status)) && sameSlot (slotNo t i) (slotNo u i)))
+
+-- a call from t to u alters no committed slot's contents and lowers no such slot's status
+unfoldable pub keepsCommitted : Table → Table → Bool
+keepsCommitted t u = allBelow 224 (keepsSlot t u)
+
+-- ---- a run: events of a trace, one after the other
+
+unfoldable pub tableAfter : Table → List Call → Table
+tableAfter t [] = t
+tableAfter t (call ∷ calls) = tableAfter (after t call) calls
+
+-- the history: the slots run, as each event writes them to the order list
+unfoldable pub history : Table → List Call → List ℕ
+history t [] = []
+history t (call ∷ calls) = slotsRun t call ++ history (after t call) calls
+
+-- no call of the run alters a committed slot's contents or lowers its status
+unfoldable pub keepsAll : Table → List Call → Bool
+keepsAll t [] = true
+keepsAll t (call ∷ calls) = keepsCommitted t (after t call) && keepsAll (after t call) calls
+
+-- ---- a copy: begun empty, then any events in any order
+
+pub record Copy : Type 0 where
+  pub config : Config
+  pub calls : List Call
+
+abbrev pub begun : Copy → Table
+begun c = emptyTable (c .config)
+
+abbrev pub ends : Copy → Table
+ends c = tableAfter (begun c) (c .calls)
+
+abbrev pub ran : Copy → List ℕ
+ran c = history (begun c) (c .calls)
+
+-- ---- what is asked of two copies
+
+-- no call of its run alters a committed slot's contents or lowers its status
+abbrev pub isSteady : Copy → Bool
+isSteady c = keepsAll (begun c) (c .calls)
+
+abbrev pub agreesOn : Table → Table → ℕ → Bool
+agreesOn t u i = not (holdsCommitted t i && holdsCommitted u i) || sameSlot (slotNo t i) (slotNo u i)
+
+-- they agree on contents wherever both hold a slot committed
+unfoldable pub agree : Table → Table → Bool
+agree t u = allBelow 224 (agreesOn t u)
+
+-- equal population, which the proof does not need; own number and quorums may differ
+unfoldable pub comparable : Copy → Copy → Bool
+comparable a b = eqb (a .config .n) (b .config .n) && (isSteady a && (isSteady b && agree (ends a) (ends b)))
+
+-- ---- what is claimed
+
+-- slot i has run
+abbrev pub Ran : Table → ℕ → Type 0
+Ran t i = hasRun t i ≡ true
+
+-- slot i leads to slot j by dependencies and earlier neighbours
+abbrev pub LeadsTo : Table → ℕ → ℕ → Type 0
+LeadsTo t i j = Leads (depsOf t) i j
+
+-- the order of two slots is the same in two histories
+abbrev pub SameOrder : ℕ → ℕ → List ℕ → List ℕ → Type 0
+SameOrder i j g h = (Precedes i j g ↔ Precedes i j h) × (Precedes j i g ↔ Precedes j i h)
+
+-- the slot at the place, and all it leads to, if it has not run
+abbrev pub Awaits : Table → Place → ℕ → Type 0
+Awaits t at i = LeadsTo t (indexOf at) i × (hasRun t i ≡ false)
+
+-- an attempt runs all of these, each once, and no other
+pub record RunsAll (t : Table) (at : Place) : Type 0 where
+  pub written : (i : ℕ) → Has i (slotsRun t (try at)) ↔ Awaits t at i
+  pub once : Once (slotsRun t (try at))
+  pub then-run : (i : ℕ) → Ran (after t (try at)) i ↔ (Ran t i ⊎ Awaits t at i)
+
+-- or nothing: no slot is written, and the table stays
+abbrev pub RunsNothing : Table → Place → Type 0
+RunsNothing t at = (slotsRun t (try at) ≡ []) × (after t (try at) ≡ t)
+
+-- one of these is not below its row's commit bar
+abbrev pub Blocked : Table → Place → Type 0
+Blocked t at = (i : ℕ) × Awaits t at i × (i % 32 < barOf t (i / 32) → ⊥)
+
+pub record AllOrNothing (t : Table) (at : Place) : Type 0 where
+  pub either : RunsAll t at ⊎ RunsNothing t at
+  pub nothing-exactly : RunsNothing t at ↔ Blocked t at
+
+-- the next event may be an attempt, not refused, on a slot not yet run
+pub record NextAttempt (t : Table) (at : Place) : Type 0 where
+  pub not-refused : (number : ℕ) → answerTo t (try at) ≡ Refused number → ⊥
+  pub not-run : hasRun t (indexOf at) ≡ false
+
+-- of each copy
+pub record Claimed (c : Copy) : Type 0 where
+  -- no slot runs twice
+  pub once : Once (ran c)
+  -- the history is exactly the slots that have run
+  pub exactly : (i : ℕ) → Has i (ran c) ↔ Ran (ends c) i
+  pub attempts : (at : Place) → NextAttempt (ends c) at → AllOrNothing (ends c) at
+
+-- of the two
+pub record Claims (a b : Copy) : Type 0 where
+  -- where one slot leads to another and both copies have run both, the order is the same
+  pub order : (i j : ℕ) → LeadsTo (ends a) i j ⊎ LeadsTo (ends b) i j → Ran (ends a) i → Ran (ends a) j → Ran (ends b) i → Ran (ends b) j
+      → SameOrder i j (ran a) (ran b)
+  pub first : Claimed a
+  pub second : Claimed b
