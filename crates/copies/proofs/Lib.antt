@@ -7,3 +7,4 @@ mod AttemptClaim
 mod RunLaws
 pub mod Theorem
 pub mod BoundLaws
+pub mod TraceLaws
