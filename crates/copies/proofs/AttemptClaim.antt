@@ -1,31 +1,32 @@
 -- An attempt not refused, on a slot not yet run, runs it and all it leads to that has not run, or nothing; and nothing exactly when
 -- one of these is not below its row's commit bar.
 use mathlib.Core.Path.{_≡_, refl, sym, ap, _∙_, subst}
-use mathlib.Core.List.{List, []}
+use mathlib.Core.List.{List}
 use mathlib.Core.Logic.{_⊎_, inl, inr, ⊎-elim, _↔_}
-use mathlib.Core.Bool.{true, false}
+use mathlib.Core.Bool.{false}
 use Prim.Native.Nat.{ℕ, zero, suc, _/_, _%_, _<_}
-use Rattle.base.specs.declared.answer.Answer.{Answer}
-use Rattle.base.specs.declared.answer.Answer.the-variants.{Done, NotYet, Refused}
+use lib.ListN.{replicate}
+use Rattle.base.specs.declared.answer.Answer.the-variants.{Done, NotYet}
 use Rattle.table.specs.Place.{indexOf}
 use Rattle.table.specs.Table.{barOf}
 use Rattle.table.specs.declared.place.Place.{Place}
 use Rattle.table.specs.declared.table.Table.{Table}
 use Rattle.leads.specs.Depends.{here}
-use Rattle.order.specs.Listed.{Has, Once}
+use Rattle.order.specs.Listed.{Has}
 use Rattle.order.proofs.ListLaws.{clash, split, has-none, has-or}
 use Rattle.attempts.specs.Reads.{hasRun}
 use Rattle.attempts.specs.Refusal.{attemptRefusal}
-use Rattle.attempts.specs.Attempt.{toRun, ranWith, tableAfter, written, answerOf, attemptOn, attemptOr, attemptOf}
+use Rattle.attempts.specs.Attempt.{tableAfter, written, answerOf, attemptOn, attemptOr, attemptOf}
 use Rattle.attempts.proofs.RefusedLaws.{Tried, attempt-tried}
-use Rattle.attempts.proofs.AttemptLaws.{answer-cases, notyet-exactly, ranList, others-nothing}
+use Rattle.attempts.proofs.AttemptLaws.{answer-cases, notyet-exactly}
 use Rattle.steps.specs.Calls.{try}
-use Rattle.steps.specs.Step.{answerTo, after, slotsRun}
+use Rattle.steps.specs.Step.{after, slotsRun}
 use Rattle.steps.proofs.KeepLaws.{Sized}
-use Rattle.copies.specs.Copies.{Ran, LeadsTo, Awaits, RunsAll, RunsNothing, Blocked, AllOrNothing, NextAttempt}
+use Rattle.copies.specs.Copies.{Ran, Awaits, RunsAll, RunsNothing, Blocked, AllOrNothing, NextAttempt}
 use Rattle.copies.proofs.Moves.{Reached, Runs}
 use Rattle.copies.proofs.AttemptMoves.{attempt-runs}
-use Rattle.copies.proofs.EventMoves.{tried-slots, tried-table}
+use Rattle.copies.proofs.EventMoves.{tried-table}
+use Rattle.copies.proofs.ListLaws.{tried-slots}
 
 -- ---- a move that runs slots, as the claim says it
 
@@ -68,14 +69,14 @@ module _ {h : List ℕ} {t : Table} (r : Reached h t) (sized : Sized t) (at : Pl
   unfolding attemptOn
   runs done =
       let d = attempt-runs t at sized (tried .within) (tried .row) (tried .col) (next .not-run) done in
-      let slots : slotsRun t (try at) ≡ written Done t at = tried-slots t at taken ∙ rw done refl in
+      let slots : slotsRun t (try at) ≡ written Done t at = tried-slots t at (replicate 224 0) taken ∙ rw done refl in
       let table : after t (try at) ≡ tableAfter Done t at = tried-table t at taken ∙ rw done refl in
       record { either = inl (runs-all at r d slots table); nothing-exactly = runs-some at r d (next .not-run) slots }
 
   waits : answerOf t at ≡ NotYet → AllOrNothing t at
   unfolding attemptOn
   waits notyet =
-      let nothing : RunsNothing t at = (tried-slots t at taken ∙ rw notyet refl, tried-table t at taken ∙ rw notyet refl) in
+      let nothing : RunsNothing t at = (tried-slots t at (replicate 224 0) taken ∙ rw notyet refl, tried-table t at taken ∙ rw notyet refl) in
       let b = notyet-exactly t at (tried .within) (tried .row) (tried .col) (next .not-run) .0 notyet in
       record { either = inr nothing; nothing-exactly = (λ _. (b .0, (b .1, unrun (b .0) (b .2)), b .2), λ _. nothing) }
     where

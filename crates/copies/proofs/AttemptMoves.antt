@@ -1,9 +1,9 @@
 -- An attempt, and attempts one after the other, are moves.
-use mathlib.Core.Path.{_≡_, refl, sym, _∙_}
+use mathlib.Core.Path.{_≡_, refl}
 use mathlib.Core.List.{List, [], _∷_}
 use mathlib.Core.Logic.{_⊎_, inl, inr, ⊎-elim}
 use mathlib.Core.Bool.{Bool, true, false, _&&_}
-use Prim.Native.Nat.{ℕ, _/_, _%_, _<_}
+use Prim.Native.Nat.{ℕ, _<_}
 use Rattle.base.specs.Marks.{marked}
 use Rattle.base.specs.declared.answer.Answer.the-variants.{Done}
 use Rattle.base.proofs.Loops.{both-true}
@@ -16,19 +16,18 @@ use Rattle.table.specs.declared.table.Table.{Table}
 use Rattle.order.specs.Listed.{Has}
 use Rattle.order.specs.Order.{orderOf}
 use Rattle.order.specs.Paper.{Paper}
-use Rattle.order.specs.Listed.{Precedes}
 use Rattle.order.proofs.ListLaws.{split}
 use Rattle.attempts.specs.Reads.{isHeldNo, hasRun, depsOf, seqsOf}
 use Rattle.attempts.specs.Attempt.{toRun, ranWith, written, tableAfter, answerOf, attemptOn}
 use Rattle.attempts.proofs.RanLaws.{ran-marked, ran-others, ran-held, ran-deps, ran-seqs}
-use Rattle.attempts.proofs.AttemptLaws.{answer-cases, reached-slot, held, done-exactly, done-has, done-paper, done-ties, to-run, attempt-keeps}
+use Rattle.attempts.proofs.AttemptLaws.{answer-cases, reached-slot, held, done-exactly, done-has, done-paper, done-ties, attempt-keeps}
 use Rattle.logged.specs.Bars.{isCommitted}
 use Rattle.logged.specs.Attempts.{attemptsOn}
 use Rattle.logged.proofs.BarLaws.{attempt-only-slots}
 use Rattle.logged.proofs.AttemptsLaws.{InRows}
 use Rattle.steps.proofs.KeepLaws.{Sized, same-sized}
-use Rattle.copies.specs.Copies.{holdsCommitted, Ran, LeadsTo}
-use Rattle.copies.proofs.Moves.{Committed, Key, Ordered, Runs, runs, Moves, still, moves-one, moves-join}
+use Rattle.copies.specs.Copies.{Ran}
+use Rattle.copies.proofs.Moves.{Committed, Ordered, Runs, runs, Moves, still, moves-one, moves-join}
 use Rattle.copies.proofs.SettledLaws.{held-low}
 
 module _ (t : Table) (at : Place) (sized : Sized t) (h : tableFits t ≡ true) (row : at .row < 7) (col : at .col < 32) where

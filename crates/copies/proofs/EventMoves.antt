@@ -8,16 +8,14 @@
 --   - attempts are moves by `attempt-moves` and `attempts-moves`;
 --   - moves one after the other are moves, by `moves-join`.
 -- It also needs its cases in `step-sized` and `step-keeps` of crate steps: what the moves ask of the table stays so.
-use mathlib.Core.Path.{_≡_, refl, sym, ap, _∙_}
-use mathlib.Core.List.{List, []}
+use mathlib.Core.Path.{_≡_, refl, ap, _∙_}
 use mathlib.Core.Logic.{_⊎_, inl, inr, ⊎-elim}
-use mathlib.Core.Bool.{Bool, true, false, _&&_}
-use Prim.Native.Nat.{ℕ, zero, suc, _+_, _*_, _/_, _%_, _<_, _≤_}
+use mathlib.Core.Bool.{true, _&&_}
+use Prim.Native.Nat.{ℕ, _+_, _*_, _/_, _%_, _<_}
 use native.Mathlib.Decide.{ℕ-discrete, decLt}
 use native.Mathlib.Omega.{arith}
 use borrow.Author.Tests.{lt-ltb}
-use lib.ListN.{length, take, replicate}
-use lib.Seq.{take-append-seam}
+use lib.ListN.{replicate}
 use Rattle.base.proofs.Loops.{both-true}
 use Rattle.slots.specs.Slot.{isExecuted}
 use Rattle.slots.specs.declared.slot.Slot.{Slot}
@@ -30,30 +28,30 @@ use Rattle.table.proofs.SlotReads.{put-elsewhere, stored-bars, nulls-bars}
 use Rattle.bounds.proofs.BoundLaws.{table-fits-each, put-either}
 use Rattle.outcomes.proofs.RefusalLaws.{Led, placed-row}
 use Rattle.attempts.specs.Refusal.{attemptRefusal}
-use Rattle.attempts.specs.Attempt.{answerOf, written, attemptOn, orderOn, attemptOr, attemptOf, attemptOrder}
+use Rattle.attempts.specs.Attempt.{attemptOn, attemptOr, attemptOf}
 use Rattle.attempts.proofs.RefusedLaws.{attempt-tried, refused-table}
-use Rattle.attempts.proofs.AttemptLaws.{unrun-falls}
-use Rattle.attempts.specs.Reads.{isHeldNo, hasRun, depsOf, seqsOf}
+use Rattle.attempts.specs.Reads.{isHeldNo, depsOf, seqsOf}
 use Rattle.logged.specs.Bars.{isCommitted, risenBar}
 use Rattle.logged.specs.Attempts.{attemptsOn}
 use Rattle.logged.specs.Committed.{risenTable, onRisen, onCommitted}
 use Rattle.logged.specs.Status.{statusNumber}
 use Rattle.logged.specs.Refusal.{loggedRefusal}
-use Rattle.logged.specs.Logged.{entriesOn, loggedOn, loggedOrder}
+use Rattle.logged.specs.Logged.{loggedOn}
 use Rattle.logged.specs.declared.status.LogStatus.{LogStatus}
 use Rattle.logged.specs.declared.status.LogStatus.the-variants.{PreAccepting, Accepting, Committed}
 use Rattle.logged.proofs.RefusedLaws.{logged-logged, logged-cases, refused-leaves}
 use Rattle.logged.proofs.BarLaws.{set-either, risen-at-least, risen-at-most, risen-over, committed-cases, another-status-no-bar}
-use Rattle.logged.proofs.OnceLaws.{others-run-none, logged-number, logged-list}
+use Rattle.logged.proofs.OnceLaws.{others-run-none}
 use Rattle.logged.proofs.CommittedLaws.{risen-keeps}
 use Rattle.logged.proofs.WithinLaws.{attempted, risen-in-rows}
 use Rattle.steps.specs.Calls.{Call, propose, reply, prepare, log, try, leadAt}
 use Rattle.steps.specs.Step.{stepOf, after, slotsRun}
 use Rattle.steps.proofs.ChangeLaws.{Touched, as-was, filled-to, put-in, stored-in, proposed-touches, reply-touches, prepare-touches, lead-touches}
 use Rattle.steps.proofs.KeepLaws.{Sized, step-sized}
-use Rattle.steps.proofs.RoomLaws.{nulls-run, unrun-most, front}
+use Rattle.steps.proofs.RoomLaws.{nulls-run}
 use Rattle.copies.specs.Copies.{keepsCommitted, Ran}
 use Rattle.copies.proofs.Moves.{Alters, alters, Moves, still, moves-one, moves-join}
+use Rattle.copies.proofs.ListLaws.{logged-slots, tried-slots}
 use Rattle.copies.proofs.SettledLaws.{held-low, ran-held, alters-slots}
 use Rattle.copies.proofs.AttemptMoves.{attempt-moves, attempts-moves}
 
@@ -138,13 +136,6 @@ handler-moves t call at s keeps touched none =
 -- ---- Logged
 
 module _ (t : Table) (at : Place) where
-  -- what is written to the list is what the event runs
-  logged-slots : (status : LogStatus) → loggedRefusal t at 224 ≡ 0 → slotsRun t (log status at) ≡ entriesOn status t at
-  logged-slots status e =
-      ap (λ k. take k (loggedOrder t at status (replicate 224 0))) (logged-number t at status (replicate 224 0) e)
-      ∙ ap (take (length (entriesOn status t at))) (logged-list t at status (replicate 224 0) e)
-      ∙ take-append-seam (entriesOn status t at) _
-
   logged-table : loggedRefusal t at 224 ≡ 0 → after t (log Committed at) ≡ onCommitted t at .table
   unfolding loggedOn
   logged-table e = logged-cases t at 224 Committed (λ r. r .outcome .table ≡ onCommitted t at .table) (λ l. absurd (omega arith)) (λ _. refl)
@@ -154,7 +145,7 @@ module _ (t : Table) (at : Place) where
     | yes l ↦ let w = refused-leaves t at 224 Committed l in rw (w .2, w .0) still
     | no n ↦
         let e : loggedRefusal t at 224 ≡ 0 = omega arith in
-        rw (logged-slots Committed e, logged-table e) (committed-moves t at s (logged-logged t at 224 e .1))
+        rw (logged-slots t at (replicate 224 0) Committed e, logged-table e) (committed-moves t at s (logged-logged t at 224 e .1))
   ]
 
   -- another status than Committed runs nothing
@@ -171,14 +162,6 @@ module _ (t : Table) (at : Place) where
 
   -- ---- Attempt
 
-  -- what is written to the list is what the attempt runs
-  pub tried-slots : attemptRefusal t at 224 ≡ 0 → slotsRun t (try at) ≡ written (answerOf t at) t at
-  unfolding attemptOf attemptOrder attemptOn orderOn
-  tried-slots e =
-      let w = attempt-tried t at 224 e in
-      let room : length (written (answerOf t at) t at) ≤ 224 = omega (arith, unrun-falls t at (w .within) (w .row) (w .col), unrun-most t) in
-      rw e (front (replicate 224 0) (written (answerOf t at) t at) room)
-
   pub tried-table : attemptRefusal t at 224 ≡ 0 → after t (try at) ≡ attemptOn t at .table
   unfolding attemptOf
   tried-table e = ap (λ n. attemptOr n t at .table) e
@@ -189,7 +172,7 @@ module _ (t : Table) (at : Place) where
     | no n ↦
         let e : attemptRefusal t at 224 ≡ 0 = omega arith in
         let w = attempt-tried t at 224 e in
-        rw (tried-slots e, tried-table e) (attempt-moves t at s (w .within) (w .row) (w .col))
+        rw (tried-slots t at (replicate 224 0) e, tried-table e) (attempt-moves t at s (w .within) (w .row) (w .col))
   ]
 
 -- ---- every event

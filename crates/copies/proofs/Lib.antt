@@ -1,8 +1,9 @@
 pub mod Moves
 pub mod OrderLaws
 mod SettledLaws
+pub mod ListLaws
 mod AttemptMoves
-mod EventMoves
+pub mod EventMoves
 mod AttemptClaim
 mod RunLaws
 pub mod Theorem

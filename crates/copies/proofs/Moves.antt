@@ -2,21 +2,20 @@
 -- A table reached by moves from an empty one satisfies what Reached says, and two such tables run slots in the same order.
 use mathlib.Core.Path.{_≡_, refl, sym, subst}
 use mathlib.Core.List.{List, [], _++_, append-nil, append-assoc}
-use mathlib.Core.Logic.{_⊎_, inl, inr, ⊎-elim, _↔_}
-use mathlib.Core.Bool.{Bool, true, false}
+use mathlib.Core.Logic.{_⊎_, inl, inr, ⊎-elim}
+use mathlib.Core.Bool.{true, false}
 use Prim.Native.Nat.{ℕ, _/_, _%_, _≤_, _<_}
 use native.Mathlib.Omega.{arith}
-use native.Mathlib.Decide.{ℕ-discrete, decLt}
 use lib.ListN.{getD}
 use Rattle.table.specs.Table.{barOf}
 use Rattle.table.specs.declared.table.Table.{Table}
-use Rattle.leads.specs.Depends.{numberIn, Depends, named, earlier, Leads, here, step}
-use Rattle.leads.proofs.PathLaws.{leads-trans, leads-on}
+use Rattle.leads.specs.Depends.{numberIn, Depends, named, earlier, here, step}
+use Rattle.leads.proofs.PathLaws.{leads-on}
 use Rattle.order.specs.Listed.{Has, Once, none, Precedes}
 use Rattle.order.specs.Paper.{Mates}
-use Rattle.order.proofs.ListLaws.{clash, split, has-none, has-or, has-left, has-right, has-either, once-both, precedes-has, precedes-left, precedes-right, precedes-across, precedes-one-way}
+use Rattle.order.proofs.ListLaws.{clash, split, has-none, has-or, has-left, has-right, has-either, once-both, precedes-left, precedes-right, precedes-across}
 use Rattle.attempts.specs.Reads.{hasRun, depsOf, seqsOf}
-use Rattle.copies.specs.Copies.{holdsCommitted, Ran, LeadsTo, SameOrder}
+use Rattle.copies.specs.Copies.{holdsCommitted, Ran, LeadsTo}
 
 -- ---- a slot
 

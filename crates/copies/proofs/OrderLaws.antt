@@ -1,13 +1,12 @@
 -- Two tables that moves have reached, and that agree where both hold a slot committed, have run slots in the same order.
-use mathlib.Core.Path.{_≡_, refl, sym, subst}
+use mathlib.Core.Path.{_≡_, sym, subst}
 use mathlib.Core.List.{List}
 use mathlib.Core.Logic.{_⊎_, inl, inr, ⊎-elim}
 use Prim.Native.Nat.{ℕ, _<_}
 use native.Mathlib.Omega.{arith}
-use native.Mathlib.Decide.{ℕ-discrete, decLt}
+use native.Mathlib.Decide.{decLt}
 use lib.ListN.{getD}
 use Rattle.table.specs.declared.table.Table.{Table}
-use Rattle.leads.specs.Depends.{Depends}
 use Rattle.order.specs.Listed.{Has, first, later, Precedes, now-then, both-later}
 use Rattle.order.proofs.ListLaws.{precedes-has, precedes-one-way}
 use Rattle.attempts.specs.Reads.{seqsOf}

@@ -2,12 +2,11 @@
 use mathlib.Core.Path.{_≡_, sym, _∙_}
 use mathlib.Core.Bool.{Bool, true, false, not, true≢false, _&&_, _||_}
 use mathlib.Core.Logic.{inl}
-use lib.Dec.{leb, eqb}
 use Prim.Native.Nat.{ℕ, _/_, _%_, _<_, _≤_}
 use native.Mathlib.Decide.{decLt}
 use native.Mathlib.Omega.{arith}
 use borrow.Author.Tests.{ltb-true, leb-true, eqb-true, le-leb, eq-eqb}
-use lib.ListN.{length, getD, List·getD-eq-default}
+use lib.ListN.{List·getD-eq-default}
 use Rattle.base.specs.Status.{rankOf}
 use Rattle.base.specs.declared.status.Status.{Status}
 use Rattle.base.specs.declared.status.Status.the-variants.{Null, PreAccepting, Accepting, Committed, Executed}
@@ -15,10 +14,9 @@ use Rattle.base.proofs.Loops.{both-true, all-at}
 use Rattle.deps.specs.Sets.{number, sameRow, sameSet}
 use Rattle.deps.specs.declared.sets.DepSet.{DepSet}
 use Rattle.votes.specs.Contents.{sameContents}
-use Rattle.slots.specs.declared.slot.Slot.{Slot}
-use Rattle.table.specs.Table.{lenOf, barOf, slotNo}
+use Rattle.table.specs.Table.{lenOf, slotNo}
 use Rattle.table.specs.declared.table.Table.{Table}
-use Rattle.attempts.specs.Reads.{isHeldNo, hasRun}
+use Rattle.attempts.specs.Reads.{isHeldNo}
 use Rattle.attempts.proofs.ReadLaws.{deps-number, seqs-at}
 use Rattle.steps.proofs.KeepLaws.{Sized}
 use Rattle.copies.specs.Copies.{holdsCommitted, sameSlot, keepsSlot, keepsCommitted, agreesOn, agree, Ran}
@@ -31,7 +29,7 @@ or-else : (a b : Bool) → a ≡ true → (not a || b) ≡ true → b ≡ true
 or-else true b e h = h
 or-else false b e h = absurd (true≢false (sym e))
 
-both-are : {a b : Bool} → a ≡ true → b ≡ true → (a && b) ≡ true
+pub both-are : {a b : Bool} → a ≡ true → b ≡ true → (a && b) ≡ true
 both-are p q = rw (p, q)
 
 -- a slot in the table is one of 224

@@ -1,15 +1,14 @@
 -- The theorem on two copies: what specs/Copies.antt claims of any two copies that pass its test.
-use mathlib.Core.Path.{_≡_, sym}
+use mathlib.Core.Path.{_≡_}
 use mathlib.Core.Logic.{⊎-elim}
 use mathlib.Core.Bool.{true, _&&_}
 use lib.Dec.{eqb}
 use Rattle.base.proofs.Loops.{both-true}
 use Rattle.copies.specs.Copies.{Copy, ends, isSteady, agree, comparable, Claimed, Claims}
-use Rattle.copies.proofs.Moves.{Reached}
-use Rattle.copies.proofs.OrderLaws.{Agree, agree-sym, same-order}
+use Rattle.copies.proofs.OrderLaws.{agree-sym, same-order}
 use Rattle.copies.proofs.SettledLaws.{agree-same}
 use Rattle.copies.proofs.AttemptClaim.{all-or-nothing}
-use Rattle.copies.proofs.RunLaws.{copy-sized, copy-reached}
+use Rattle.copies.proofs.RunLaws.{firstOf, copy-sized, copy-reached, first-steady}
 
 -- of one copy, whatever the other does
 pub one-copy : (c : Copy) → isSteady c ≡ true → Claimed c
@@ -18,7 +17,7 @@ one-copy c s =
     record {
       once = r .once;
       exactly = λ i. (r .ran i, r .listed i);
-      attempts = λ at next. all-or-nothing r (copy-sized c) at next;
+      attempts = λ k at next. all-or-nothing (copy-reached (firstOf k c) (first-steady k c s)) (copy-sized (firstOf k c)) at next;
     }
 
 pub two-copies : (a b : Copy) → comparable a b ≡ true → Claims a b

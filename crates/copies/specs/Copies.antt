@@ -6,6 +6,7 @@ use mathlib.Core.Logic.{_⊎_, _↔_}
 use mathlib.Core.Bool.{Bool, true, false, not, _&&_, _||_}
 use Prim.Native.Nat.{ℕ, _/_, _%_, _<_}
 use lib.Dec.{leb, eqb}
+use lib.ListN.{take}
 use Rattle.base.specs.Below.{allBelow}
 use Rattle.base.specs.Status.{rankOf}
 use Rattle.base.specs.declared.answer.Answer.the-variants.{Refused}
@@ -68,6 +69,11 @@ pub record Copy : Type 0 where
 abbrev pub begun : Copy → Table
 begun c = emptyTable (c .config)
 
+-- the table after its first k events
+abbrev pub tableAt : Copy → ℕ → Table
+tableAt c k = tableAfter (begun c) (take k (c .calls))
+
+-- and after all
 abbrev pub ends : Copy → Table
 ends c = tableAfter (begun c) (c .calls)
 
@@ -127,7 +133,7 @@ pub record AllOrNothing (t : Table) (at : Place) : Type 0 where
   pub either : RunsAll t at ⊎ RunsNothing t at
   pub nothing-exactly : RunsNothing t at ↔ Blocked t at
 
--- the next event may be an attempt, not refused, on a slot not yet run
+-- an attempt is not refused, and its slot has not yet run
 pub record NextAttempt (t : Table) (at : Place) : Type 0 where
   pub not-refused : (number : ℕ) → answerTo t (try at) ≡ Refused number → ⊥
   pub not-run : hasRun t (indexOf at) ≡ false
@@ -138,7 +144,8 @@ pub record Claimed (c : Copy) : Type 0 where
   pub once : Once (ran c)
   -- the history is exactly the slots that have run
   pub exactly : (i : ℕ) → Has i (ran c) ↔ Ran (ends c) i
-  pub attempts : (at : Place) → NextAttempt (ends c) at → AllOrNothing (ends c) at
+  -- an attempt after any of its events runs all or nothing
+  pub attempts : (k : ℕ) (at : Place) → NextAttempt (tableAt c k) at → AllOrNothing (tableAt c k) at
 
 -- of the two
 pub record Claims (a b : Copy) : Type 0 where
