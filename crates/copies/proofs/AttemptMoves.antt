@@ -51,6 +51,7 @@ module _ (t : Table) (at : Place) (sized : Sized t) (h : tableFits t ≡ true) (
           (p .inside i j (p .only i m) (p .only j k) mates)
           (λ w. done-ties t at h row col done .equal i j (p .only i m) (p .only j k) mates (w .0) (w .1));
       outer = λ i j m k. p .after i j (p .only i m) (p .only j k);
+      together = p .together;
     }
 
     now-run : (i : ℕ) → Has i wrote → Ran (ranWith t marks) i

@@ -7,5 +7,6 @@ pub mod EventMoves
 mod AttemptClaim
 mod RunLaws
 pub mod Theorem
+pub mod PaperLaws
 pub mod BoundLaws
 pub mod TraceLaws

@@ -13,7 +13,7 @@ use Rattle.leads.specs.Depends.{numberIn, Depends, named, earlier, here, step}
 use Rattle.leads.proofs.PathLaws.{leads-on}
 use Rattle.order.specs.Listed.{Has, Once, none, Precedes}
 use Rattle.order.specs.Paper.{Mates}
-use Rattle.order.proofs.ListLaws.{clash, split, has-none, has-or, has-left, has-right, has-either, once-both, precedes-left, precedes-right, precedes-across}
+use Rattle.order.proofs.ListLaws.{clash, split, has-none, has-or, has-left, has-right, has-either, once-both, precedes-none, precedes-has, precedes-either, precedes-second, precedes-left, precedes-right, precedes-across}
 use Rattle.attempts.specs.Reads.{hasRun, depsOf, seqsOf}
 use Rattle.copies.specs.Copies.{holdsCommitted, Ran, LeadsTo}
 
@@ -44,6 +44,8 @@ pub record Ordered (t : Table) (w : List ℕ) : Type 0 where
   pub inner : (i j : ℕ) → Has i w → Has j w → Mates (depsOf t) i j → Key (seqsOf t) i j → Precedes i j w
   -- a slot stands after those that it leads to
   pub outer : (i j : ℕ) → Has i w → Has j w → LeadsTo t i j → (LeadsTo t j i → ⊥) → Precedes j i w
+  -- a component stands together
+  pub together : (i j k : ℕ) → Mates (depsOf t) i k → Precedes i j w → Precedes j k w → Mates (depsOf t) i j
 
 -- ---- the moves
 
@@ -120,7 +122,7 @@ reached-empty t unrun low = record {
   closed = λ i j r d. absurd (unrun i r);
   low = λ i r. absurd (unrun i r);
   settled = λ i b. absurd (omega (arith, low (i / 32)));
-  ordered = record { inner = λ i j m. absurd (has-none i m); outer = λ i j m. absurd (has-none i m) };
+  ordered = record { inner = λ i j m. absurd (has-none i m); outer = λ i j m. absurd (has-none i m); together = λ i j k m p. absurd (precedes-none i j p) };
 }
 
 -- a slot that has run is committed
@@ -132,6 +134,11 @@ ordered-still : {h : List ℕ} {t u : Table} → Reached h t → ((i : ℕ) → 
 ordered-still {h} {t} {u} r s = record {
   inner = λ i j m k p v. r .ordered .inner i j m k (back i j m (p .0), back j i k (p .1)) (key i j m k v);
   outer = λ i j m k p n. r .ordered .outer i j m k (back i j m p) (λ q. n (forth j i k q));
+  together = λ i j k mates p q.
+      let m = precedes-has i j h p in
+      let l = precedes-has j k h q .1 in
+      let w = r .ordered .together i j k (back i k (m .0) (mates .0), back k i l (mates .1)) p q in
+      (forth i j (m .0) (w .0), forth j i (m .1) (w .1));
 }
   where
     forth : (i j : ℕ) → Has i h → LeadsTo t i j → LeadsTo u i j
@@ -179,7 +186,11 @@ module _ {h w : List ℕ} {t u : Table} {s : ℕ} (r : Reached h t) (d : Runs t 
   old-order = ordered-still r (λ i _. same i)
 
   new-order : Ordered u w
-  new-order = record { inner = λ i j. rw (d .deps, d .seqs) (d .ordered .inner i j); outer = λ i j. rw (d .deps) (d .ordered .outer i j) }
+  new-order = record {
+    inner = λ i j. rw (d .deps, d .seqs) (d .ordered .inner i j);
+    outer = λ i j. rw (d .deps) (d .ordered .outer i j);
+    together = λ i j k. rw (d .deps) (d .ordered .together i j k);
+  }
 
   -- a slot that had run leads to none that had not
   never : (i j : ℕ) → Has i h → Has j w → LeadsTo u i j → ⊥
@@ -198,6 +209,23 @@ module _ {h w : List ℕ} {t u : Table} {s : ℕ} (r : Reached h t) (d : Runs t 
   run-outer i j (inl m) (inr k) p n = absurd (never i j m k p)
   run-outer i j (inr m) (inl k) p n = precedes-across j i h w k m
   run-outer i j (inr m) (inr k) p n = precedes-right j i h w (new-order .outer i j m k p n)
+
+  -- two slots stand in the one part or in the other
+  earlier-part : (i j : ℕ) → Has j h → Precedes i j (h ++ w) → Precedes i j h
+  earlier-part i j m p = ⊎-elim (λ q. q) (⊎-elim (λ q. absurd (apart j m (q .1))) (λ q. absurd (apart j m (precedes-has i j w q .1)))) (precedes-either i j h w p)
+
+  later-part : (i j : ℕ) → Has i w → Precedes i j (h ++ w) → Precedes i j w
+  later-part i j m p = precedes-second i j h w (λ k. apart i k m) p
+
+  run-together : (i j k : ℕ) → Has i h ⊎ Has i w → Has k h ⊎ Has k w → Mates (depsOf u) i k → Precedes i j (h ++ w) → Precedes j k (h ++ w) → Mates (depsOf u) i j
+  run-together i j k (inl m) (inl l) mates p q =
+      let later = earlier-part j k l q in
+      old-order .together i j k mates (earlier-part i j (precedes-has j k h later .0) p) later
+  run-together i j k (inl m) (inr l) mates p q = absurd (never i k m l (mates .0))
+  run-together i j k (inr m) (inl l) mates p q = absurd (never k i l m (mates .1))
+  run-together i j k (inr m) (inr l) mates p q =
+      let sooner = later-part i j m p in
+      new-order .together i j k mates sooner (later-part j k (precedes-has i j w sooner .1) q)
 
   -- what a slot that was written depends on has run
   run-closed : (i j : ℕ) → Has i h ⊎ Has i w → Depends (depsOf t) i j → Ran u j
@@ -219,6 +247,7 @@ module _ {h w : List ℕ} {t u : Table} {s : ℕ} (r : Reached h t) (d : Runs t 
     ordered = record {
       inner = λ i j m k. run-inner i j (has-either i h w m) (has-either j h w k);
       outer = λ i j m k. run-outer i j (has-either i h w m) (has-either j h w k);
+      together = λ i j k mates p q. run-together i j k (has-either i h w (precedes-has i j (h ++ w) p .0)) (has-either k h w (precedes-has j k (h ++ w) q .1)) mates p q;
     };
   }
 
