@@ -1,7 +1,7 @@
 -- The examples hold, by computing.
 use mathlib.Core.Path.{_≡_, refl, ap, ap₂, _∙_, subst, subst⁻¹}
 use mathlib.Core.Bool.{true, false, _&&_}
-use mathlib.Core.List.{List, [], _∷_}
+use mathlib.Core.List.{List, [], _∷_, flatMap}
 use mathlib.Core.Logic.{inl}
 use Prim.Native.Nat.{ℕ}
 use native.Mathlib.Omega.{arith}
@@ -16,7 +16,7 @@ use Rattle.order.specs.Listed.{first, Once, Precedes, now-then}
 use Rattle.order.proofs.ListLaws.{has-none, once-head, precedes-cases, precedes-none}
 use Rattle.attempts.specs.Reads.{hasRun, depsOf}
 use Rattle.copies.specs.Copies.{begun, ends, ran, isSteady, agree, comparable, Ran, SameOrder}
-use Rattle.controls.specs.Examples.{crossing, one, two, Crosses, Met, again, Twice, other, Differ}
+use Rattle.controls.specs.Examples.{crossing, one, two, Crosses, Met, ByArrival, again, Twice, other, Differ}
 use Rattle.controls.proofs.CaseLaws.{Plays}
 use Rattle.controls.proofs.CaseTables.{setsWith}
 use Rattle.controls.proofs.TwiceCase.{alone-plays}
@@ -54,6 +54,17 @@ crosses {seq} p =
 
 pub premises-met : Met
 premises-met = record { asked = asked; crosses = crosses one-plays; one-ran = one-plays .wrote; two-ran = two-plays .wrote }
+
+-- ---- by arrival
+
+not-before : Precedes 32 0 (0 ∷ 32 ∷ []) → ⊥
+not-before h =
+    precedes-cases 32 0 0 (32 ∷ []) h (λ e _. absurd (suc-ne-zero 31 e))
+    (λ l. precedes-cases 32 0 32 [] l (λ _ m. has-none 0 m) (precedes-none 32 0))
+
+pub arrivals-differ : ByArrival
+unfolding flatMap
+arrivals-differ = record { one-hears = refl; two-hears = refl; not-same = λ same. not-before (same .0 .1 (now-then refl (first refl))) }
 
 -- ---- what is committed has to stay
 
@@ -99,11 +110,6 @@ other-first = ap (λ t. hasRun t 0) (other-plays .leaves) ∙ first-run 1
 
 other-second : Ran (ends other) 32
 other-second = ap (λ t. hasRun t 32) (other-plays .leaves) ∙ second-run 1
-
-not-before : Precedes 32 0 (0 ∷ 32 ∷ []) → ⊥
-not-before h =
-    precedes-cases 32 0 0 (32 ∷ []) h (λ e _. absurd (suc-ne-zero 31 e))
-    (λ l. precedes-cases 32 0 32 [] l (λ _ m. has-none 0 m) (precedes-none 32 0))
 
 -- 1.0 is before 0.0 in the one history and not in the other
 other-order : SameOrder 32 0 (ran one) (ran other) → ⊥

@@ -1,21 +1,22 @@
--- Three examples: the premises can be met, and neither that committed slots stay nor that the copies agree can be left out.
+-- Examples: the premises can be met; by arrival the orders would differ; and neither that committed slots stay nor that the
+-- copies agree can be left out.
 -- Slot 0.0 is number 0, slot 1.0 is number 32. Events have the values of a trace, in their order there.
 use mathlib.Core.Path.{_≡_}
 use mathlib.Core.Bool.{true, false}
-use mathlib.Core.List.{List, [], _∷_, _++_}
+use mathlib.Core.List.{List, [], _∷_, _++_, flatMap}
 use Prim.Native.Nat.{ℕ, _-_}
 use lib.ListN.{length, replicate}
 use Rattle.deps.specs.Sets.{setOf}
 use Rattle.deps.specs.Batches.{batchOf}
 use Rattle.deps.specs.declared.batches.Kind.the-variants.{Put, Get}
 use Rattle.deps.specs.declared.batches.Request.{Request}
-use Rattle.table.specs.Place.{placeOf}
+use Rattle.table.specs.Place.{placeOf, indexOf}
 use Rattle.bounds.specs.Open.{configOf}
 use Rattle.outcomes.specs.declared.message.Proposal.{Proposal}
-use Rattle.proposing.specs.declared.proposals.Phase.the-variants.{PreAccept, CommitNotice}
+use Rattle.proposing.specs.declared.proposals.Phase.the-variants.{PreAccept, Accept, CommitNotice}
 use Rattle.logged.specs.declared.status.LogStatus.the-variants.{Committed}
-use Rattle.steps.specs.Calls.{Call, propose, log, try, leadAt}
-use Rattle.copies.specs.Copies.{Copy, ends, ran, isSteady, agree, comparable, LeadsTo, Claimed, Claims}
+use Rattle.steps.specs.Calls.{Call, propose, reply, prepare, log, try, leadAt}
+use Rattle.copies.specs.Copies.{Copy, ends, ran, isSteady, agree, comparable, LeadsTo, SameOrder, Claimed, Claims}
 
 -- ---- the events
 
@@ -105,6 +106,29 @@ pub record Met : Type 0 where
   pub crosses : Crosses one
   pub one-ran : ran one ≡ 32 ∷ 0 ∷ []
   pub two-ran : ran two ≡ 32 ∷ 0 ∷ []
+
+-- ---- a component sorted by arrival
+
+-- the slot of a CommitNotice
+abbrev pub noticed : Call → List ℕ
+noticed (propose PreAccept p) = []
+noticed (propose Accept p) = []
+noticed (propose CommitNotice p) = indexOf (p .message .at) ∷ []
+noticed (reply m) = []
+noticed (prepare m) = []
+noticed (log status at) = []
+noticed (try at) = []
+noticed (leadAt at) = []
+
+-- slots as their CommitNotices come in
+abbrev pub arrived : Copy → List ℕ
+arrived c = flatMap noticed (c .calls)
+
+-- the same two copies hear of the two slots in different orders: sorted so, what is claimed of the order would not hold
+pub record ByArrival : Type 0 where
+  pub one-hears : arrived one ≡ 0 ∷ 32 ∷ []
+  pub two-hears : arrived two ≡ 32 ∷ 0 ∷ []
+  pub not-same : SameOrder 32 0 (arrived one) (arrived two) → ⊥
 
 -- ---- a slot that has run is committed again
 

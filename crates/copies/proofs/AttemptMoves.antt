@@ -26,8 +26,8 @@ use Rattle.logged.specs.Attempts.{attemptsOn}
 use Rattle.logged.proofs.BarLaws.{attempt-only-slots}
 use Rattle.logged.proofs.AttemptsLaws.{InRows}
 use Rattle.steps.proofs.KeepLaws.{Sized, same-sized}
-use Rattle.copies.specs.Copies.{Ran}
-use Rattle.copies.proofs.Moves.{Committed, Ordered, Runs, runs, Moves, still, moves-one, moves-join}
+use Rattle.copies.specs.Copies.{Ran, Ordered}
+use Rattle.copies.proofs.Moves.{Committed, Runs, runs, Moves, still, moves-one, moves-join}
 use Rattle.copies.proofs.SettledLaws.{held-low}
 
 module _ (t : Table) (at : Place) (sized : Sized t) (h : tableFits t ≡ true) (row : at .row < 7) (col : at .col < 32) where

@@ -15,7 +15,7 @@ use Rattle.order.specs.Listed.{Has, Once, none, Precedes}
 use Rattle.order.specs.Paper.{Mates}
 use Rattle.order.proofs.ListLaws.{clash, split, has-none, has-or, has-left, has-right, has-either, once-both, precedes-none, precedes-has, precedes-either, precedes-second, precedes-left, precedes-right, precedes-across}
 use Rattle.attempts.specs.Reads.{hasRun, depsOf, seqsOf}
-use Rattle.copies.specs.Copies.{holdsCommitted, Ran, LeadsTo}
+use Rattle.copies.specs.Copies.{holdsCommitted, Ran, LeadsTo, Key, Ordered}
 
 -- ---- a slot
 
@@ -32,20 +32,6 @@ pub record Same (t u : Table) (i : ℕ) : Type 0 where
 
 pub same-sym : {t u : Table} {i : ℕ} → Same t u i → Same u t i
 same-sym s = record { seq = sym (s .seq); deps = λ row l. sym (s .deps row l) }
-
--- ---- the order of slots that have run
-
--- inside a component: by sequence, then row and column
-abbrev pub Key : List ℕ → ℕ → ℕ → Type 0
-Key seq i j = (getD seq i 0 < getD seq j 0) ⊎ ((getD seq i 0 ≡ getD seq j 0) × (i < j))
-
-pub record Ordered (t : Table) (w : List ℕ) : Type 0 where
-  -- two slots of one component stand by their key
-  pub inner : (i j : ℕ) → Has i w → Has j w → Mates (depsOf t) i j → Key (seqsOf t) i j → Precedes i j w
-  -- a slot stands after those that it leads to
-  pub outer : (i j : ℕ) → Has i w → Has j w → LeadsTo t i j → (LeadsTo t j i → ⊥) → Precedes j i w
-  -- a component stands together
-  pub together : (i j k : ℕ) → Mates (depsOf t) i k → Precedes i j w → Precedes j k w → Mates (depsOf t) i j
 
 -- ---- the moves
 
@@ -129,6 +115,10 @@ reached-empty t unrun low = record {
 pub ran-committed : {h : List ℕ} {t : Table} → Reached h t → (i : ℕ) → Ran t i → Committed t i
 ran-committed r i x = r .settled i (r .low i x)
 
+-- all that it leads to has run too
+pub ran-leads : {h : List ℕ} {t : Table} → Reached h t → (i j : ℕ) → Ran t i → LeadsTo t i j → Ran t j
+ran-leads {t = t} r i j x l = leads-same {u = t} (Ran t) (r .closed) (λ _ _. record { seq = refl; deps = λ _ _. refl }) x l .1
+
 -- what is ordered stays so where no slot that has run is altered
 ordered-still : {h : List ℕ} {t u : Table} → Reached h t → ((i : ℕ) → Ran t i → Same t u i) → Ordered u h
 ordered-still {h} {t} {u} r s = record {
@@ -194,9 +184,7 @@ module _ {h w : List ℕ} {t u : Table} {s : ℕ} (r : Reached h t) (d : Runs t 
 
   -- a slot that had run leads to none that had not
   never : (i j : ℕ) → Has i h → Has j w → LeadsTo u i j → ⊥
-  never i j m k p =
-      let l : LeadsTo t i j = rw (d .deps) at p in
-      apart j (r .listed j (leads-same {u = t} (Ran t) (r .closed) (λ x _. record { seq = refl; deps = λ _ _. refl }) (r .ran i m) l .1)) k
+  never i j m k p = apart j (r .listed j (ran-leads r i j (r .ran i m) (rw (d .deps) at p))) k
 
   run-inner : (i j : ℕ) → Has i h ⊎ Has i w → Has j h ⊎ Has j w → Mates (depsOf u) i j → Key (seqsOf u) i j → Precedes i j (h ++ w)
   run-inner i j (inl m) (inl k) p v = precedes-left i j h w (old-order .inner i j m k p v)

@@ -10,8 +10,8 @@ use Rattle.table.specs.declared.table.Table.{Table}
 use Rattle.order.specs.Listed.{Has, first, later, Precedes, now-then, both-later}
 use Rattle.order.proofs.ListLaws.{precedes-has, precedes-one-way}
 use Rattle.attempts.specs.Reads.{seqsOf}
-use Rattle.copies.specs.Copies.{Ran, LeadsTo, SameOrder}
-use Rattle.copies.proofs.Moves.{Committed, Same, same-sym, Key, Reached, ran-committed, depends-same, leads-same}
+use Rattle.copies.specs.Copies.{Ran, LeadsTo, Key, SameOrder}
+use Rattle.copies.proofs.Moves.{Committed, Same, same-sym, Reached, ran-committed, depends-same, leads-same}
 
 -- of two slots in a list one stands before the other
 one-first : (i j : ℕ) (L : List ℕ) → (i ≡ j → ⊥) → Has i L → Has j L → Precedes i j L ⊎ Precedes j i L

@@ -2,9 +2,11 @@
 use mathlib.Core.Path.{_≡_}
 use mathlib.Core.Logic.{⊎-elim}
 use mathlib.Core.Bool.{true, _&&_}
+use Prim.Native.Nat.{ℕ}
 use lib.Dec.{eqb}
 use Rattle.base.proofs.Loops.{both-true}
-use Rattle.copies.specs.Copies.{Copy, ends, isSteady, agree, comparable, Claimed, Claims}
+use Rattle.copies.specs.Copies.{Copy, ends, ran, isSteady, agree, comparable, Claimed, Claims}
+use Rattle.copies.proofs.Moves.{Reached, ran-leads}
 use Rattle.copies.proofs.OrderLaws.{agree-sym, same-order}
 use Rattle.copies.proofs.SettledLaws.{agree-same}
 use Rattle.copies.proofs.AttemptClaim.{all-or-nothing}
@@ -17,8 +19,14 @@ one-copy c s =
     record {
       once = r .once;
       exactly = λ i. (r .ran i, r .listed i);
-      attempts = λ k at next. all-or-nothing (copy-reached (firstOf k c) (first-steady k c s)) (copy-sized (firstOf k c)) at next;
+      ordered = r .ordered;
+      whole = λ k. ran-leads (first k);
+      attempts = λ k. all-or-nothing (first k) (copy-sized (firstOf k c));
     }
+  where
+    -- what holds after its first k events
+    first : (k : ℕ) → Reached (ran (firstOf k c)) (ends (firstOf k c))
+    first k = copy-reached (firstOf k c) (first-steady k c s)
 
 pub two-copies : (a b : Copy) → comparable a b ≡ true → Claims a b
 unfolding comparable

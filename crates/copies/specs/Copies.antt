@@ -6,7 +6,7 @@ use mathlib.Core.Logic.{_⊎_, _↔_}
 use mathlib.Core.Bool.{Bool, true, false, not, _&&_, _||_}
 use Prim.Native.Nat.{ℕ, _/_, _%_, _<_}
 use lib.Dec.{leb, eqb}
-use lib.ListN.{take}
+use lib.ListN.{getD, take}
 use Rattle.base.specs.Below.{allBelow}
 use Rattle.base.specs.Status.{rankOf}
 use Rattle.base.specs.declared.answer.Answer.the-variants.{Refused}
@@ -19,7 +19,8 @@ use Rattle.table.specs.declared.place.Place.{Place}
 use Rattle.table.specs.declared.table.Table.{Table}
 use Rattle.leads.specs.Depends.{Leads}
 use Rattle.order.specs.Listed.{Has, Once, Precedes}
-use Rattle.attempts.specs.Reads.{isHeldNo, hasRun, depsOf}
+use Rattle.order.specs.Paper.{Mates}
+use Rattle.attempts.specs.Reads.{isHeldNo, hasRun, depsOf, seqsOf}
 use Rattle.logged.specs.Bars.{isCommitted}
 use Rattle.steps.specs.Calls.{Call, try}
 use Rattle.steps.specs.Step.{answerTo, after, slotsRun}
@@ -107,6 +108,19 @@ Ran t i = hasRun t i ≡ true
 abbrev pub LeadsTo : Table → ℕ → ℕ → Type 0
 LeadsTo t i j = Leads (depsOf t) i j
 
+-- inside a component: by sequence, then row and column
+abbrev pub Key : List ℕ → ℕ → ℕ → Type 0
+Key seq i j = (getD seq i 0 < getD seq j 0) ⊎ ((getD seq i 0 ≡ getD seq j 0) × (i < j))
+
+-- slots in a history stand by the rule, whatever order their events came in
+pub record Ordered (t : Table) (h : List ℕ) : Type 0 where
+  -- two slots of one component stand by their key
+  pub inner : (i j : ℕ) → Has i h → Has j h → Mates (depsOf t) i j → Key (seqsOf t) i j → Precedes i j h
+  -- a slot stands after those that it leads to
+  pub outer : (i j : ℕ) → Has i h → Has j h → LeadsTo t i j → (LeadsTo t j i → ⊥) → Precedes j i h
+  -- a component stands together
+  pub together : (i j k : ℕ) → Mates (depsOf t) i k → Precedes i j h → Precedes j k h → Mates (depsOf t) i j
+
 -- the order of two slots is the same in two histories
 abbrev pub SameOrder : ℕ → ℕ → List ℕ → List ℕ → Type 0
 SameOrder i j g h = (Precedes i j g ↔ Precedes i j h) × (Precedes j i g ↔ Precedes j i h)
@@ -144,6 +158,10 @@ pub record Claimed (c : Copy) : Type 0 where
   pub once : Once (ran c)
   -- the history is exactly the slots that have run
   pub exactly : (i : ℕ) → Has i (ran c) ↔ Ran (ends c) i
+  -- it is in the order of the rule
+  pub ordered : Ordered (ends c) (ran c)
+  -- after any of its events, all that a slot which has run leads to has run too
+  pub whole : (k i j : ℕ) → Ran (tableAt c k) i → LeadsTo (tableAt c k) i j → Ran (tableAt c k) j
   -- an attempt after any of its events runs all or nothing
   pub attempts : (k : ℕ) (at : Place) → NextAttempt (tableAt c k) at → AllOrNothing (tableAt c k) at
 
