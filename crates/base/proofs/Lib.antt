@@ -5,3 +5,4 @@ pub mod Lists
 pub mod Loops
 pub mod ConfigLaws
 pub mod MarkLaws
+pub mod LogStatusLaws

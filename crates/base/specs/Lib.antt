@@ -3,4 +3,5 @@ pub mod Refusals
 pub mod Answer
 pub mod Config
 pub mod Status
+pub mod LogStatus
 pub mod Marks

@@ -2,10 +2,10 @@
 use super::messages;
 use super::running;
 use super::text;
+use base::log_status::LogStatus;
 use handlers::lead;
 use handlers::replies;
 use logged::logged::logged;
-use logged::status::LogStatus;
 use outcomes::outcome::Outcome;
 use proposing::proposals;
 use table::place::Place;

@@ -17,12 +17,12 @@ use Rattle.attempts.specs.Refusal.{attemptRefusal}
 use Rattle.attempts.specs.Attempt as Attempt
 use Rattle.attempts.specs.Attempt.{reached, allBelowBars, waitingIn, ranWith, answerOf, toRun, written, attemptOn, orderOn, attemptOr, orderOr, attemptOf, attemptOrder}
 use Rattle.logged.specs.Refusal.{loggedRefusal}
-use Rattle.logged.specs.Bars.{risenBar}
-use Rattle.logged.specs.Attempts.{isNotYet, before, attemptsOn}
-use Rattle.logged.specs.Committed.{tailsBelow, attemptedFrom, risenTable, onRisen, rises, onCommitted}
+use Rattle.rising.specs.Bars.{risenBar}
+use Rattle.rising.specs.Attempts.{isNotYet, before, attemptsOn}
+use Rattle.rising.specs.Committed.{tailsBelow, attemptedFrom, risenTable, onRisen, rises, onCommitted}
 use Rattle.logged.specs.Logged as Logged
 use Rattle.logged.specs.Logged.{loggedOn, loggedOr, loggedOf, loggedOrder}
-use Rattle.logged.specs.declared.status.LogStatus.the-variants.{Committed}
+use Rattle.base.specs.declared.log_status.LogStatus.the-variants.{Committed}
 use Rattle.steps.specs.Calls.{Call, log, try}
 use Rattle.steps.specs.Step.{after, slotsRun}
 use Rattle.copies.specs.Copies.{keepsCommitted, tableAfter, history, keepsAll}

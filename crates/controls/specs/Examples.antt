@@ -14,7 +14,7 @@ use Rattle.table.specs.Place.{placeOf, indexOf}
 use Rattle.bounds.specs.Open.{configOf}
 use Rattle.outcomes.specs.declared.message.Proposal.{Proposal}
 use Rattle.proposing.specs.declared.proposals.Phase.the-variants.{PreAccept, Accept, CommitNotice}
-use Rattle.logged.specs.declared.status.LogStatus.the-variants.{Committed}
+use Rattle.base.specs.declared.log_status.LogStatus.the-variants.{Committed}
 use Rattle.steps.specs.Calls.{Call, propose, reply, prepare, log, try, leadAt}
 use Rattle.copies.specs.Copies.{Copy, ends, ran, isSteady, agree, comparable, LeadsTo, SameOrder, Claimed, Claims}
 

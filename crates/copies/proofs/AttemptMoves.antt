@@ -21,10 +21,10 @@ use Rattle.attempts.specs.Reads.{isHeldNo, hasRun, depsOf, seqsOf}
 use Rattle.attempts.specs.Attempt.{toRun, ranWith, written, tableAfter, answerOf, attemptOn}
 use Rattle.attempts.proofs.RanLaws.{ran-marked, ran-others, ran-held, ran-deps, ran-seqs}
 use Rattle.attempts.proofs.AttemptLaws.{answer-cases, reached-slot, held, done-exactly, done-has, done-paper, done-ties, attempt-keeps}
-use Rattle.logged.specs.Bars.{isCommitted}
-use Rattle.logged.specs.Attempts.{attemptsOn}
-use Rattle.logged.proofs.BarLaws.{attempt-only-slots}
-use Rattle.logged.proofs.AttemptsLaws.{InRows}
+use Rattle.rising.specs.Bars.{isCommitted}
+use Rattle.rising.specs.Attempts.{attemptsOn}
+use Rattle.rising.proofs.BarLaws.{attempt-only-slots}
+use Rattle.rising.proofs.AttemptsLaws.{InRows}
 use Rattle.steps.proofs.KeepLaws.{Sized, same-sized}
 use Rattle.copies.specs.Copies.{Ran, Ordered}
 use Rattle.copies.proofs.Moves.{Committed, Runs, runs, Moves, still, moves-one, moves-join}

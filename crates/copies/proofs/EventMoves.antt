@@ -31,18 +31,19 @@ use Rattle.attempts.specs.Refusal.{attemptRefusal}
 use Rattle.attempts.specs.Attempt.{attemptOn, attemptOr, attemptOf}
 use Rattle.attempts.proofs.RefusedLaws.{attempt-tried, refused-table}
 use Rattle.attempts.specs.Reads.{isHeldNo, depsOf, seqsOf}
-use Rattle.logged.specs.Bars.{isCommitted, risenBar}
-use Rattle.logged.specs.Attempts.{attemptsOn}
-use Rattle.logged.specs.Committed.{risenTable, onRisen, onCommitted}
-use Rattle.logged.specs.Status.{statusNumber}
+use Rattle.rising.specs.Bars.{isCommitted, risenBar}
+use Rattle.rising.specs.Attempts.{attemptsOn}
+use Rattle.rising.specs.Committed.{risenTable, onRisen, onCommitted}
+use Rattle.base.specs.LogStatus.{statusNumber}
 use Rattle.logged.specs.Refusal.{loggedRefusal}
 use Rattle.logged.specs.Logged.{loggedOn}
-use Rattle.logged.specs.declared.status.LogStatus.{LogStatus}
-use Rattle.logged.specs.declared.status.LogStatus.the-variants.{PreAccepting, Accepting, Committed}
+use Rattle.base.specs.declared.log_status.LogStatus.{LogStatus}
+use Rattle.base.specs.declared.log_status.LogStatus.the-variants.{PreAccepting, Accepting, Committed}
 use Rattle.logged.proofs.RefusedLaws.{logged-logged, logged-cases, refused-leaves}
-use Rattle.logged.proofs.BarLaws.{set-either, risen-at-least, risen-at-most, risen-over, committed-cases, another-status-no-bar}
+use Rattle.rising.proofs.BarLaws.{set-either, risen-at-least, risen-at-most, risen-over, committed-cases}
+use Rattle.logged.proofs.BarLaws.{another-status-no-bar}
 use Rattle.logged.proofs.OnceLaws.{others-run-none}
-use Rattle.logged.proofs.CommittedLaws.{risen-keeps}
+use Rattle.rising.proofs.CommittedLaws.{risen-keeps}
 use Rattle.logged.proofs.WithinLaws.{attempted, risen-in-rows}
 use Rattle.steps.specs.Calls.{Call, propose, reply, prepare, log, try, leadAt}
 use Rattle.steps.specs.Step.{stepOf, after, slotsRun}

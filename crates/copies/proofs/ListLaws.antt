@@ -16,7 +16,7 @@ use Rattle.attempts.proofs.RefusedLaws.{attempt-tried, refused-table}
 use Rattle.attempts.proofs.AttemptLaws.{unrun-falls}
 use Rattle.logged.specs.Refusal.{loggedRefusal}
 use Rattle.logged.specs.Logged.{entriesOn, loggedOr, loggedOf, loggedOrder}
-use Rattle.logged.specs.declared.status.LogStatus.{LogStatus}
+use Rattle.base.specs.declared.log_status.LogStatus.{LogStatus}
 use Rattle.logged.proofs.RefusedLaws.{refused-leaves}
 use Rattle.logged.proofs.OnceLaws.{logged-number, logged-list}
 use Rattle.steps.specs.Calls.{Call, propose, reply, prepare, log, try, leadAt}

@@ -21,7 +21,7 @@ use Rattle.leads.specs.Depends.{Leads}
 use Rattle.order.specs.Listed.{Has, Once, Precedes}
 use Rattle.order.specs.Paper.{Mates}
 use Rattle.attempts.specs.Reads.{isHeldNo, hasRun, depsOf, seqsOf}
-use Rattle.logged.specs.Bars.{isCommitted}
+use Rattle.rising.specs.Bars.{isCommitted}
 use Rattle.steps.specs.Calls.{Call, try}
 use Rattle.steps.specs.Step.{answerTo, after, slotsRun}
 

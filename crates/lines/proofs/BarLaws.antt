@@ -7,9 +7,9 @@ use native.Mathlib.Decide.{decLt}
 use native.Mathlib.Omega.{arith}
 use Rattle.table.specs.Table.{lenOf}
 use Rattle.table.specs.declared.table.Table.{Table}
-use Rattle.logged.specs.Bars.{firstFrom}
-use Rattle.logged.proofs.RisenLaws.{first-stops, first-goes}
-use Rattle.logged.proofs.BarLaws.{First, first-from}
+use Rattle.rising.specs.Bars.{firstFrom}
+use Rattle.rising.proofs.RisenLaws.{first-stops, first-goes}
+use Rattle.rising.proofs.BarLaws.{First, first-from}
 use Rattle.lines.specs.Bars.{ranAt, runBar}
 
 module _ (t : Table) (row : ℕ) where

@@ -8,7 +8,7 @@ use Rattle.slots.specs.Slot.{nullSlot, executed}
 use Rattle.table.specs.Table.{tableOf}
 use Rattle.table.specs.declared.table.Table.{Table}
 use Rattle.keys.specs.Columns.{emptyKeys}
-use Rattle.logged.specs.Bars.{firstFrom}
+use Rattle.rising.specs.Bars.{firstFrom}
 use Rattle.lines.specs.Decimal.{digitsIn, digitsOf, pairText}
 use Rattle.lines.specs.Line.{slotsText, lineText}
 use Rattle.lines.specs.Bars.{runBar, barText, rowsText, barsText}

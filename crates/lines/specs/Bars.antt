@@ -6,7 +6,7 @@ use Rattle.base.specs.Below.{listBelow}
 use Rattle.slots.specs.Slot.{isExecuted}
 use Rattle.table.specs.Table.{lenOf, barOf, slotNo}
 use Rattle.table.specs.declared.table.Table.{Table}
-use Rattle.logged.specs.Bars.{firstFrom}
+use Rattle.rising.specs.Bars.{firstFrom}
 use Rattle.lines.specs.Decimal.{pairText}
 
 -- the slot of the row in the column has run

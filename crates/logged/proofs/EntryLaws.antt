@@ -19,13 +19,13 @@ use Rattle.attempts.specs.Reads.{hasRun}
 use Rattle.attempts.specs.Attempt.{unrun}
 use Rattle.logged.specs.Refusal.{loggedRefusal}
 use Rattle.logged.specs.Replies.{preAcceptingOut, onAccepting}
-use Rattle.logged.specs.Attempts.{ranFrom}
-use Rattle.logged.specs.Committed.{onCommitted}
+use Rattle.rising.specs.Attempts.{ranFrom}
+use Rattle.rising.specs.Committed.{onCommitted}
 use Rattle.logged.specs.Logged.{loggedOn, orderOn, loggedOf, loggedOrder}
-use Rattle.logged.specs.declared.status.LogStatus.{LogStatus}
-use Rattle.logged.specs.declared.status.LogStatus.the-variants.{PreAccepting, Accepting, Committed}
+use Rattle.base.specs.declared.log_status.LogStatus.{LogStatus}
+use Rattle.base.specs.declared.log_status.LogStatus.the-variants.{PreAccepting, Accepting, Committed}
 use Rattle.logged.specs.declared.logged.LogOutcome.{LogOutcome}
-use Rattle.logged.specs.declared.tails.Ran.{Ran}
+use Rattle.rising.specs.declared.tails.Ran.{Ran}
 use Rattle.logged.proofs.RefusedLaws.{logged-logged}
 
 module _ (t : Table) (at : Place) (status : LogStatus) (list : List ℕ) where

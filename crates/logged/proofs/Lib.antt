@@ -1,11 +1,6 @@
-pub mod StatusLaws
 pub mod RefusedLaws
 pub mod ReplyLaws
-pub mod RisenLaws
 pub mod BarLaws
-pub mod AttemptsLaws
-pub mod TailLaws
-pub mod CommittedLaws
 pub mod EntryLaws
 pub mod WithinLaws
 pub mod OnceLaws

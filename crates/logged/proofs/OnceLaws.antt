@@ -32,19 +32,19 @@ use Rattle.order.proofs.ListLaws.{clash, has-none, has-or, has-left, has-right,
 use Rattle.attempts.specs.Reads.{isHeldNo, hasRun}
 use Rattle.attempts.specs.Attempt.{answerOf, written, attemptOn, unrun}
 use Rattle.attempts.proofs.AttemptLaws.{answer-cases, reached-slot, held, others-nothing, done-has, done-paper, done-ran, done-others, attempt-keeps}
-use Rattle.logged.specs.Status.{statusNumber}
+use Rattle.base.specs.LogStatus.{statusNumber}
 use Rattle.logged.specs.Refusal.{loggedRefusal}
 use Rattle.logged.specs.Replies.{myReply, ownReply}
-use Rattle.logged.specs.Bars.{risenBar, withBar}
-use Rattle.logged.specs.Attempts.{attemptsOn}
-use Rattle.logged.specs.Committed.{risenTable, onRisen, onCommitted}
+use Rattle.rising.specs.Bars.{risenBar, withBar}
+use Rattle.rising.specs.Attempts.{attemptsOn}
+use Rattle.rising.specs.Committed.{risenTable, onRisen, onCommitted}
 use Rattle.logged.specs.Logged.{entriesOn, loggedOn, orderOn, loggedOf, loggedOrder}
-use Rattle.logged.specs.declared.status.LogStatus.{LogStatus}
-use Rattle.logged.specs.declared.status.LogStatus.the-variants.{PreAccepting, Accepting, Committed}
+use Rattle.base.specs.declared.log_status.LogStatus.{LogStatus}
+use Rattle.base.specs.declared.log_status.LogStatus.the-variants.{PreAccepting, Accepting, Committed}
 use Rattle.logged.proofs.RefusedLaws.{logged-logged, logged-cases, table-cases, order-cases}
-use Rattle.logged.proofs.BarLaws.{attempt-only-slots, committed-cases}
-use Rattle.logged.proofs.AttemptsLaws.{InRows, attempts-fall}
-use Rattle.logged.proofs.CommittedLaws.{risen-keeps}
+use Rattle.rising.proofs.BarLaws.{attempt-only-slots, committed-cases}
+use Rattle.rising.proofs.AttemptsLaws.{InRows, attempts-fall}
+use Rattle.rising.proofs.CommittedLaws.{risen-keeps}
 use Rattle.logged.proofs.WithinLaws.{attempted, risen-in-rows}
 
 -- ---- what ran, between a table and a later one

@@ -24,10 +24,10 @@ use Rattle.outcomes.proofs.RefusalLaws.{Led, lead-led}
 use Rattle.handlers.proofs.RefusedLaws.{LeadRefused, some-lead, lead-number}
 use Rattle.logged.specs.Refusal.{loggedRefusal}
 use Rattle.logged.specs.Replies.{toSource, preAcceptingOut, ownReply, onAccepting}
-use Rattle.logged.specs.Committed.{onCommitted}
+use Rattle.rising.specs.Committed.{onCommitted}
 use Rattle.logged.specs.Logged.{outcomeOn, loggedOn, orderOn, loggedOr, orderOr, loggedOf, loggedOrder}
-use Rattle.logged.specs.declared.status.LogStatus.{LogStatus}
-use Rattle.logged.specs.declared.status.LogStatus.the-variants.{PreAccepting, Accepting, Committed}
+use Rattle.base.specs.declared.log_status.LogStatus.{LogStatus}
+use Rattle.base.specs.declared.log_status.LogStatus.the-variants.{PreAccepting, Accepting, Committed}
 use Rattle.logged.specs.declared.logged.LogOutcome.{LogOutcome}
 
 -- when each number is given, in the order of the refusals: 8, then those of a slot that has to be in the table

@@ -19,16 +19,16 @@ use Rattle.handlers.proofs.RefusedLaws.{heard-passed}
 use Rattle.handlers.proofs.WithinLaws.{kept-outcome, reply-keeps}
 use Rattle.attempts.specs.Attempt.{answerOf, attemptOn}
 use Rattle.logged.specs.Replies.{myReply, ownReply}
-use Rattle.logged.specs.Bars.{risenBar}
-use Rattle.logged.specs.Attempts.{isNotYet, attemptsOn}
-use Rattle.logged.specs.Committed.{tailsBelow, attemptedFrom, risenTable, onRisen}
+use Rattle.rising.specs.Bars.{risenBar}
+use Rattle.rising.specs.Attempts.{isNotYet, attemptsOn}
+use Rattle.rising.specs.Committed.{tailsBelow, attemptedFrom, risenTable, onRisen}
 use Rattle.logged.specs.Logged.{loggedOf}
-use Rattle.logged.specs.declared.status.LogStatus.{LogStatus}
+use Rattle.base.specs.declared.log_status.LogStatus.{LogStatus}
 use Rattle.logged.proofs.RefusedLaws.{table-cases}
-use Rattle.logged.proofs.BarLaws.{committed-cases}
-use Rattle.logged.proofs.AttemptsLaws.{InRows, attempts-keep}
-use Rattle.logged.proofs.TailLaws.{tails-in-rows}
-use Rattle.logged.proofs.CommittedLaws.{tail-column, risen-keeps}
+use Rattle.rising.proofs.BarLaws.{committed-cases}
+use Rattle.rising.proofs.AttemptsLaws.{InRows, attempts-keep}
+use Rattle.rising.proofs.TailLaws.{tails-in-rows}
+use Rattle.rising.proofs.CommittedLaws.{tail-column, risen-keeps}
 
 -- ---- an AcceptReply from myself
 

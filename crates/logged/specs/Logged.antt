@@ -11,9 +11,9 @@ use Rattle.outcomes.specs.Outcome.{refused, outcome, outcomeOf}
 use Rattle.outcomes.specs.declared.outcome.Outcome.{Outcome}
 use Rattle.logged.specs.Refusal.{loggedRefusal}
 use Rattle.logged.specs.Replies.{preAcceptingOut, onAccepting}
-use Rattle.logged.specs.Committed.{onCommitted}
-use Rattle.logged.specs.declared.status.LogStatus.{LogStatus}
-use Rattle.logged.specs.declared.status.LogStatus.the-variants.{PreAccepting, Accepting, Committed}
+use Rattle.rising.specs.Committed.{onCommitted}
+use Rattle.base.specs.declared.log_status.LogStatus.{LogStatus}
+use Rattle.base.specs.declared.log_status.LogStatus.the-variants.{PreAccepting, Accepting, Committed}
 use Rattle.logged.specs.declared.logged.LogOutcome.{LogOutcome}
 
 -- ---- one that is not refused: Done

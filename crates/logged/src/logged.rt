@@ -2,12 +2,12 @@
 ghost use mathlib.Core.Path.{_≡_};
 ghost use lib.ListN.{length};
 ghost use Rattle.logged.specs.Logged.{loggedOf, loggedOrder};
-use super::committed;
 use super::refusal;
 use super::replies;
-use super::status::LogStatus;
+use base::log_status::LogStatus;
 use outcomes::outcome::Outcome;
 use outcomes::output::Output;
+use rising::committed;
 use table::place::Place;
 use table::table::Table;
 

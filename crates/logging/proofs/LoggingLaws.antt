@@ -24,17 +24,17 @@ use Rattle.attempts.specs.Attempt.{attemptOn}
 use Rattle.image.specs.Tables.{imageWidth, tableAt, imageKnown, TableWhole}
 use Rattle.output_bytes.specs.Output.{outputWidth}
 use Rattle.slot_bytes.proofs.ReadLaws.{Bytes}
-use Rattle.logged.specs.Status.{isStatus, statusOf}
+use Rattle.base.specs.LogStatus.{isStatus, statusOf}
 use Rattle.logged.specs.Refusal.{loggedRefusal}
-use Rattle.logged.specs.Bars.{risenBar}
+use Rattle.rising.specs.Bars.{risenBar}
 use Rattle.logged.specs.Replies.{myReply, ownReply}
-use Rattle.logged.specs.Attempts.{attemptsOn}
-use Rattle.logged.specs.Committed.{risenTable, onRisen, onCommitted}
+use Rattle.rising.specs.Attempts.{attemptsOn}
+use Rattle.rising.specs.Committed.{risenTable, onRisen, onCommitted}
 use Rattle.logged.specs.Logged.{entriesOn, orderOn, loggedOf, loggedOrder}
-use Rattle.logged.specs.declared.status.LogStatus.{LogStatus}
+use Rattle.base.specs.declared.log_status.LogStatus.{LogStatus}
 use Rattle.logged.specs.declared.logged.LogOutcome.{LogOutcome}
 use Rattle.logged.proofs.RefusedLaws.{LoggedRefused, short-order, by-slot, logged-cases, table-cases, logged-exactly, logged-done, refused-leaves, order-cases, refused-list}
-use Rattle.logged.proofs.BarLaws.{risen-at-most, committed-cases}
+use Rattle.rising.proofs.BarLaws.{risen-at-most, committed-cases}
 use Rattle.calls.specs.Calls.{short, imageLong}
 use Rattle.calls.proofs.WholeLaws.{set-rows, outcome-whole, reply-whole}
 use Rattle.calls.proofs.WrittenLaws.{bytes-stay, laid-length, long-image}

@@ -8,7 +8,7 @@ use Rattle.base.specs.Refusals.{unreadable, shortOrder, outsideBounds}
 use Rattle.table.specs.Place.{placeOf}
 use Rattle.image.specs.Tables.{tableAt, imageKnown}
 use Rattle.output_bytes.specs.Output.{outputWidth}
-use Rattle.logged.specs.Status.{isStatus, statusOf}
+use Rattle.base.specs.LogStatus.{isStatus, statusOf}
 use Rattle.logged.specs.Logged.{loggedOf, loggedOrder}
 use Rattle.logged.specs.declared.logged.LogOutcome.{LogOutcome}
 use Rattle.calls.specs.Calls.{short, enough, imageLong, settled}

@@ -2,6 +2,8 @@
 ghost use mathlib.Core.Path.{_≡_};
 ghost use Rattle.logging.specs.Logging.{logLong, logCall};
 use attempting::attempting::put_ran;
+use base::log_status::LogStatus;
+use base::log_status::is_status;
 use base::refusals;
 use calls::calls::SHORT;
 use calls::calls::settle;
@@ -9,8 +11,6 @@ use image::tables;
 use image::tables::is_known;
 use image::tables::table_at;
 use logged::logged::logged;
-use logged::status::LogStatus;
-use logged::status::is_status;
 use output_bytes::output;
 use table::place::Place;
 

@@ -20,8 +20,8 @@ use Rattle.outcomes.specs.declared.message.Message.{Message}
 use Rattle.outcomes.specs.declared.message.Proposal.{Proposal}
 use Rattle.proposing.specs.declared.proposals.Phase.{Phase}
 use Rattle.proposing.specs.declared.proposals.Phase.the-variants as Phases
-use Rattle.logged.specs.Status.{statusNumber}
-use Rattle.logged.proofs.StatusLaws.{number-back}
+use Rattle.base.specs.LogStatus.{statusNumber}
+use Rattle.base.proofs.LogStatusLaws.{number-back}
 use Rattle.steps.specs.Calls.{Call, propose, reply, prepare, log, try, leadAt, tagOf}
 use Rattle.steps.specs.declared.event.Tag.{Tag}
 use Rattle.groups.specs.Numbers.{bytesOf}

@@ -9,8 +9,8 @@ use lib.ListN.{length, take, drop, replicate}
 use lib.Seq.{sets-eq, take-at}
 use Rattle.deps.specs.Batches.{batchOf, present}
 use Rattle.deps.proofs.BatchLaws.{batch-of-holds}
-use Rattle.logged.specs.Status.{isStatus}
-use Rattle.logged.proofs.StatusLaws.{status-back}
+use Rattle.base.specs.LogStatus.{isStatus}
+use Rattle.base.proofs.LogStatusLaws.{status-back}
 use Rattle.steps.specs.Calls.{tagNumber, tagOf}
 use Rattle.steps.specs.declared.event.Tag.{Tag}
 use Rattle.steps.specs.declared.event.Tag.the-variants.{PreAccept, Accept, CommitNotice, AcceptReply, ExpPrepare, Logged, Attempt, Lead}

@@ -9,9 +9,9 @@ use Rattle.outcomes.specs.declared.message.Message.{Message}
 use Rattle.outcomes.specs.declared.message.Proposal.{Proposal}
 use Rattle.proposing.specs.declared.proposals.Phase.{Phase}
 use Rattle.proposing.specs.declared.proposals.Phase.the-variants as Phases
-use Rattle.logged.specs.Status.{statusOf}
-use Rattle.logged.specs.declared.status.LogStatus.{LogStatus}
-use Rattle.logged.specs.declared.status.LogStatus.the-variants as Statuses
+use Rattle.base.specs.LogStatus.{statusOf}
+use Rattle.base.specs.declared.log_status.LogStatus.{LogStatus}
+use Rattle.base.specs.declared.log_status.LogStatus.the-variants as Statuses
 use Rattle.steps.specs.Calls.{Call, propose, reply, prepare, log, try, leadAt, tagOf}
 use Rattle.steps.specs.declared.event.Tag.{Tag}
 use Rattle.steps.specs.declared.event.Tag.the-variants.{PreAccept, Accept, CommitNotice, AcceptReply, ExpPrepare, Logged, Attempt, Lead}

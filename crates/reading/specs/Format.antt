@@ -13,7 +13,7 @@ use Rattle.table.specs.declared.place.Place.{Place}
 use Rattle.outcomes.specs.declared.message.Message.{Message}
 use Rattle.outcomes.specs.declared.message.Proposal.{Proposal}
 use Rattle.proposing.specs.declared.proposals.Phase.the-variants.{PreAccept, Accept, CommitNotice}
-use Rattle.logged.specs.Status.{statusNumber}
+use Rattle.base.specs.LogStatus.{statusNumber}
 use Rattle.steps.specs.Calls.{Call, propose, reply, prepare, log, try, leadAt}
 use Rattle.groups.specs.Numbers.{bytesOf}
 use Rattle.groups.specs.Reads.{Fit}

@@ -1,7 +1,7 @@
 // The header, and an event.
 ghost use mathlib.Core.Path.{_≡_};
 ghost use Prim.Native.Nat.{_≤_};
-ghost use Rattle.logged.specs.declared.status.LogStatus.the-variants.{Committed};
+ghost use Rattle.base.specs.declared.log_status.LogStatus.the-variants.{Committed};
 ghost use Rattle.groups.specs.Cursor.{numberWithin};
 ghost use Rattle.reading.specs.Events.{headerOf, proposalFrom, heldRead, logs, eventFrom, event, alone, fromNobody, eventIn};
 use super::batches::batch;
@@ -12,10 +12,10 @@ use super::fields::place;
 use super::fields::set;
 use super::fields::size;
 use base::config::Config;
+use base::log_status::LogStatus;
 use deps::batches::Batch;
 use deps::sets::DepSet;
 use groups::cursor::Cursor;
-use logged::status::LogStatus;
 use outcomes::message::Message;
 use outcomes::message::Proposal;
 use steps::event::Event;

@@ -24,7 +24,7 @@ use Rattle.attempts.specs.Attempt.{tried, attemptOn, attemptOr, attemptOf}
 use Rattle.attempts.specs.Refusal.{attemptRefusal}
 use Rattle.attempts.specs.declared.attempt.Attempted.{Attempted}
 use Rattle.attempts.proofs.RefusedLaws.{Tried, attempt-tried}
-use Rattle.logged.proofs.BarLaws.{OnlySlots, attempt-only-slots}
+use Rattle.rising.proofs.BarLaws.{OnlySlots, attempt-only-slots}
 
 -- ---- a handler
 

@@ -28,20 +28,20 @@ use Rattle.attempts.specs.Refusal.{attemptRefusal}
 use Rattle.attempts.specs.Attempt.{answerOf, written, attemptOn, orderOn, unrun, attemptOr, orderOr, attemptOf, attemptOrder}
 use Rattle.attempts.proofs.AttemptLaws.{unrun-falls}
 use Rattle.attempts.proofs.RefusedLaws.{attempt-tried}
-use Rattle.logged.specs.Status.{statusNumber}
-use Rattle.logged.specs.Bars.{risenBar}
-use Rattle.logged.specs.Attempts.{attemptsOn}
-use Rattle.logged.specs.Committed.{risenTable, onRisen, onCommitted}
+use Rattle.base.specs.LogStatus.{statusNumber}
+use Rattle.rising.specs.Bars.{risenBar}
+use Rattle.rising.specs.Attempts.{attemptsOn}
+use Rattle.rising.specs.Committed.{risenTable, onRisen, onCommitted}
 use Rattle.logged.specs.Refusal.{loggedRefusal}
 use Rattle.logged.specs.Logged as logged
 use Rattle.logged.specs.Logged.{entriesOn, loggedOn, loggedOr, loggedOf, loggedOrder}
-use Rattle.logged.specs.declared.status.LogStatus.{LogStatus}
-use Rattle.logged.specs.declared.status.LogStatus.the-variants.{PreAccepting, Accepting, Committed}
+use Rattle.base.specs.declared.log_status.LogStatus.{LogStatus}
+use Rattle.base.specs.declared.log_status.LogStatus.the-variants.{PreAccepting, Accepting, Committed}
 use Rattle.logged.specs.declared.logged.LogOutcome.{LogOutcome}
 use Rattle.logged.proofs.RefusedLaws.{logged-logged, logged-cases}
-use Rattle.logged.proofs.BarLaws.{set-either, committed-cases}
-use Rattle.logged.proofs.AttemptsLaws.{attempts-fall}
-use Rattle.logged.proofs.CommittedLaws.{risen-keeps, bar-unrun}
+use Rattle.rising.proofs.BarLaws.{set-either, committed-cases}
+use Rattle.rising.proofs.AttemptsLaws.{attempts-fall}
+use Rattle.rising.proofs.CommittedLaws.{risen-keeps, bar-unrun}
 use Rattle.logged.proofs.WithinLaws.{attempted, risen-in-rows}
 use Rattle.logged.proofs.OnceLaws.{attempt-executes, committed-executes, others-run-none}
 use Rattle.steps.specs.Calls.{Call, propose, reply, prepare, log, try, leadAt}

@@ -7,7 +7,7 @@ use Rattle.outcomes.specs.declared.message.Message.{Message}
 use Rattle.outcomes.specs.declared.message.Proposal.{Proposal}
 use Rattle.proposing.specs.declared.proposals.Phase.{Phase}
 use Rattle.proposing.specs.declared.proposals.Phase.the-variants as Phases
-use Rattle.logged.specs.declared.status.LogStatus.{LogStatus}
+use Rattle.base.specs.declared.log_status.LogStatus.{LogStatus}
 use Rattle.steps.specs.declared.event.Tag.{Tag}
 use Rattle.steps.specs.declared.event.Tag.the-variants.{PreAccept, Accept, CommitNotice, AcceptReply, ExpPrepare, Logged, Attempt, Lead}
 use Rattle.steps.specs.declared.event.Event.{Event}

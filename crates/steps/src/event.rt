@@ -1,7 +1,7 @@
 // The events of a trace.
 ghost use mathlib.Core.Path.{_≡_};
 ghost use Rattle.steps.specs.Calls.{tagOf};
-use logged::status::LogStatus;
+use base::log_status::LogStatus;
 use outcomes::message::Proposal;
 
 pub enum Tag {

@@ -1,7 +1,7 @@
 // What an event of the list does to the table: the step that a trace's event takes.
 use super::events::Event;
+use base::log_status::LogStatus;
 use logged::logged::LogOutcome;
-use logged::status::LogStatus;
 use steps::event::Tag;
 use steps::step::step;
 use table::table::Table;

@@ -1,0 +1,4 @@
+pub mod Bars
+pub mod Attempts
+pub mod Committed
+pub mod Tails
