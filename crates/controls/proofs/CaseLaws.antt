@@ -25,7 +25,7 @@ use Rattle.logged.specs.Logged.{loggedOn, loggedOr, loggedOf, loggedOrder}
 use Rattle.base.specs.declared.log_status.LogStatus.the-variants.{Committed}
 use Rattle.steps.specs.Calls.{Call, log, try}
 use Rattle.steps.specs.Step.{after, slotsRun}
-use Rattle.copies.specs.Copies.{keepsCommitted, tableAfter, history, keepsAll}
+use Rattle.copies.specs.Copies.{keepsCommitted, tableAfterAll, history, keepsAll}
 
 -- ---- an attempt
 
@@ -95,7 +95,7 @@ attempt-goes {t} {u} {at} r h f =
       leaves = ap (λ k. attemptOr k t at .table) r ∙ h .leaves;
     }
 
--- an attempt after which there is no more to attempt
+-- what a Logged attempts after its first attempt
 abbrev pub rest : Answer → Table → List Place
 rest answer u = cond (isNotYet answer) [] (tailsBelow u 7)
 
@@ -131,19 +131,19 @@ logged-goes {t} {v} {u} {at} {answer} {w} r h e f =
 -- the history, the table in the end, and whether what is committed stays
 pub record Plays (t : Table) (calls : List Call) (w : List ℕ) (u : Table) (steady : Bool) : Type 0 where
   pub wrote : history t calls ≡ w
-  pub leaves : tableAfter t calls ≡ u
+  pub leaves : tableAfterAll t calls ≡ u
   pub keeps : keepsAll t calls ≡ steady
 
 pub plays-none : {t : Table} → Plays t [] [] t true
-unfolding history tableAfter keepsAll
+unfolding history tableAfterAll keepsAll
 plays-none = record { wrote = refl; leaves = refl; keeps = refl }
 
 pub plays-more : {t u v : Table} {call : Call} {calls : List Call} {w L : List ℕ} {b c : Bool} → Goes t call w u → keepsCommitted t u ≡ b
     → Plays u calls L v c → Plays t (call ∷ calls) (w ++ L) v (b && c)
-unfolding history tableAfter keepsAll
+unfolding history tableAfterAll keepsAll
 plays-more {t} {u} {v} {call} {calls} {w} g k p =
     record {
       wrote = ap₂ (λ L x. L ++ history x calls) (g .slots) (g .leaves) ∙ ap (λ L. w ++ L) (p .wrote);
-      leaves = ap (λ x. tableAfter x calls) (g .leaves) ∙ p .leaves;
+      leaves = ap (λ x. tableAfterAll x calls) (g .leaves) ∙ p .leaves;
       keeps = ap (λ x. keepsCommitted t x && keepsAll x calls) (g .leaves) ∙ ap₂ _&&_ k (p .keeps);
     }

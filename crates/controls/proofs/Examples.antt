@@ -15,7 +15,7 @@ use Rattle.leads.specs.Depends.{named, Leads, here, step}
 use Rattle.order.specs.Listed.{first, Once, Precedes, now-then}
 use Rattle.order.proofs.ListLaws.{has-none, once-head, precedes-cases, precedes-none}
 use Rattle.attempts.specs.Reads.{hasRun, depsOf}
-use Rattle.copies.specs.Copies.{begun, ends, ran, isSteady, agree, comparable, Ran, SameOrder}
+use Rattle.copies.specs.Copies.{begun, ends, historyOf, isSteady, agree, comparable, Ran, SameOrder}
 use Rattle.controls.specs.Examples.{crossing, one, two, Crosses, Met, ByArrival, again, Twice, other, Differ}
 use Rattle.controls.proofs.CaseLaws.{Plays}
 use Rattle.controls.proofs.CaseTables.{setsWith}
@@ -64,7 +64,7 @@ not-before h =
 
 pub arrivals-differ : ByArrival
 unfolding flatMap
-arrivals-differ = record { one-hears = refl; two-hears = refl; not-same = λ same. not-before (same .0 .1 (now-then refl (first refl))) }
+arrivals-differ = record { one-arrived = refl; two-arrived = refl; not-same = λ same. not-before (same .0 .1 (now-then refl (first refl))) }
 
 -- ---- what is committed has to stay
 
@@ -112,7 +112,7 @@ other-second : Ran (ends other) 32
 other-second = ap (λ t. hasRun t 32) (other-plays .leaves) ∙ second-run 1
 
 -- 1.0 is before 0.0 in the one history and not in the other
-other-order : SameOrder 32 0 (ran one) (ran other) → ⊥
+other-order : SameOrder 32 0 (historyOf one) (historyOf other) → ⊥
 other-order same =
     not-before (subst (Precedes 32 0) (other-plays .wrote)
     (same .0 .0 (subst⁻¹ (Precedes 32 0) (one-plays .wrote) (now-then refl (first refl)))))
@@ -124,7 +124,6 @@ orders-differ =
       other-steady = other-steady;
       at-odds = ap₂ agree (one-plays .leaves) (other-plays .leaves) ∙ at-odds;
       crosses = crosses other-plays;
-      one-ran = one-plays .wrote;
-      other-ran = other-plays .wrote;
+      orders = (one-plays .wrote, other-plays .wrote);
       not-claimed = λ c. other-order (c .order 32 0 (inl (crosses one-plays .back)) one-second one-first other-second other-first);
     }

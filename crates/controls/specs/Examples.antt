@@ -16,7 +16,7 @@ use Rattle.outcomes.specs.declared.message.Proposal.{Proposal}
 use Rattle.proposing.specs.declared.proposals.Phase.the-variants.{PreAccept, Accept, CommitNotice}
 use Rattle.base.specs.declared.log_status.LogStatus.the-variants.{Committed}
 use Rattle.steps.specs.Calls.{Call, propose, reply, prepare, log, try, leadAt}
-use Rattle.copies.specs.Copies.{Copy, ends, ran, isSteady, agree, comparable, LeadsTo, SameOrder, Claimed, Claims}
+use Rattle.copies.specs.Copies.{Copy, ends, historyOf, isSteady, agree, comparable, LeadsTo, SameOrder, Claimed, Claims}
 
 -- ---- the events
 
@@ -78,7 +78,7 @@ crossing seq =
 abbrev pub one : Copy
 one = crossing 2
 
--- another replica, with other quorums: it hears of 0.0 by a PreAccept, and commits it after 1.0, which it leads
+-- another replica, with another super quorum: it hears of 0.0 by a PreAccept, and commits it after 1.0, which it leads
 abbrev pub two : Copy
 two =
     record {
@@ -104,8 +104,8 @@ pub record Crosses (c : Copy) : Type 0 where
 pub record Met : Type 0 where
   pub asked : comparable one two ≡ true
   pub crosses : Crosses one
-  pub one-ran : ran one ≡ 32 ∷ 0 ∷ []
-  pub two-ran : ran two ≡ 32 ∷ 0 ∷ []
+  pub one-ran : historyOf one ≡ 32 ∷ 0 ∷ []
+  pub two-ran : historyOf two ≡ 32 ∷ 0 ∷ []
 
 -- ---- a component sorted by arrival
 
@@ -120,14 +120,14 @@ noticed (log status at) = []
 noticed (try at) = []
 noticed (leadAt at) = []
 
--- slots as their CommitNotices come in
+-- slots in the order in which their CommitNotices come in
 abbrev pub arrived : Copy → List ℕ
 arrived c = flatMap noticed (c .calls)
 
--- the same two copies hear of the two slots in different orders: sorted so, what is claimed of the order would not hold
+-- to the same two copies the CommitNotices come in different orders: sorted so, what is claimed of the order would not hold
 pub record ByArrival : Type 0 where
-  pub one-hears : arrived one ≡ 0 ∷ 32 ∷ []
-  pub two-hears : arrived two ≡ 32 ∷ 0 ∷ []
+  pub one-arrived : arrived one ≡ 0 ∷ 32 ∷ []
+  pub two-arrived : arrived two ≡ 32 ∷ 0 ∷ []
   pub not-same : SameOrder 32 0 (arrived one) (arrived two) → ⊥
 
 -- ---- a slot that has run is committed again
@@ -141,7 +141,7 @@ again = record { config = configOf 1 0 1 1; calls = notice ∷ loggedCommitted 0
 -- its status falls, it runs twice, and what is claimed of a copy does not hold
 pub record Twice : Type 0 where
   pub unsteady : isSteady again ≡ false
-  pub ran-twice : ran again ≡ 0 ∷ 0 ∷ []
+  pub ran-twice : historyOf again ≡ 0 ∷ 0 ∷ []
   pub not-claimed : Claimed again → ⊥
 
 -- ---- the copies do not agree: 0.0 is committed with sequence 2 and with sequence 1
@@ -155,6 +155,5 @@ pub record Differ : Type 0 where
   pub other-steady : isSteady other ≡ true
   pub at-odds : agree (ends one) (ends other) ≡ false
   pub crosses : Crosses other
-  pub one-ran : ran one ≡ 32 ∷ 0 ∷ []
-  pub other-ran : ran other ≡ 0 ∷ 32 ∷ []
+  pub orders : (historyOf one ≡ 32 ∷ 0 ∷ []) × (historyOf other ≡ 0 ∷ 32 ∷ [])
   pub not-claimed : Claims one other → ⊥

@@ -6,7 +6,6 @@ use mathlib.Core.Bool.{Bool, true, false, _&&_}
 use Prim.Native.Nat.{ℕ, _<_}
 use Rattle.base.specs.Marks.{marked}
 use Rattle.base.specs.declared.answer.Answer.the-variants.{Done}
-use Rattle.base.proofs.Loops.{both-true}
 use Rattle.slots.specs.Slot.{isExecuted}
 use Rattle.bounds.specs.Bounds.{tableFits}
 use Rattle.table.specs.Place.{indexOf}
@@ -21,13 +20,12 @@ use Rattle.attempts.specs.Reads.{isHeldNo, hasRun, depsOf, seqsOf}
 use Rattle.attempts.specs.Attempt.{toRun, ranWith, written, tableAfter, answerOf, attemptOn}
 use Rattle.attempts.proofs.RanLaws.{ran-marked, ran-others, ran-held, ran-deps, ran-seqs}
 use Rattle.attempts.proofs.AttemptLaws.{answer-cases, reached-slot, held, done-exactly, done-has, done-paper, done-ties, attempt-keeps}
-use Rattle.rising.specs.Bars.{isCommitted}
 use Rattle.rising.specs.Attempts.{attemptsOn}
 use Rattle.rising.proofs.BarLaws.{attempt-only-slots}
 use Rattle.rising.proofs.AttemptsLaws.{InRows}
 use Rattle.steps.proofs.KeepLaws.{Sized, same-sized}
 use Rattle.copies.specs.Copies.{Ran, Ordered}
-use Rattle.copies.proofs.Moves.{Committed, Runs, runs, Moves, still, moves-one, moves-join}
+use Rattle.copies.proofs.Moves.{Runs, runs, Moves, still, moves-one, moves-join}
 use Rattle.copies.proofs.SettledLaws.{held-low}
 
 module _ (t : Table) (at : Place) (sized : Sized t) (h : tableFits t ≡ true) (row : at .row < 7) (col : at .col < 32) where
@@ -66,14 +64,6 @@ module _ (t : Table) (at : Place) (sized : Sized t) (h : tableFits t ≡ true) (
         go false e = refl
         go true e = ⊎-elim (λ on. absurd (n (p .all i on))) (λ same. rw same refl) (after-slot i e)
 
-    still-committed : (i : ℕ) → Committed t i → Committed (ranWith t marks) i
-    still-committed i c =
-        let w = both-true (isHeldNo t i) (isCommitted (slotNo t i)) c in
-        rw (ran-held t marks i, w .0) (⊎-elim
-        (λ on. rw (ran-marked t marks i (held-low sized i (w .0)) on) refl)
-        (λ same. rw same (w .1))
-        (after-slot i (w .0)))
-
     pub attempt-runs : Runs t (indexOf at) wrote (ranWith t marks)
     unfolding ranWith
     attempt-runs = record {
@@ -84,7 +74,6 @@ module _ (t : Table) (at : Place) (sized : Sized t) (h : tableFits t ≡ true) (
       ordered = in-order;
       marked = now-run;
       others = others-stay;
-      committed = still-committed;
       deps = ran-deps t marks;
       seqs = ran-seqs t marks;
       bars = λ r. refl;

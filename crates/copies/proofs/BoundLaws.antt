@@ -27,12 +27,12 @@ use Rattle.logged.proofs.RefusedLaws.{LoggedRefused, logged-exactly}
 use Rattle.steps.specs.Calls.{Call, propose, reply, prepare, log, try, leadAt}
 use Rattle.steps.specs.Step.{answerTo, after}
 use Rattle.steps.proofs.KeepLaws.{Sized, empty-sized, step-sized, step-keeps}
-use Rattle.copies.specs.Copies.{tableAfter, Copy, begun, ends}
+use Rattle.copies.specs.Copies.{tableAfterAll, Copy, begun, ends}
 
 -- ---- within the bounds
 
-run-fits : (t : Table) (calls : List Call) → Sized t → tableFits t ≡ true → tableFits (tableAfter t calls) ≡ true
-unfolding tableAfter
+run-fits : (t : Table) (calls : List Call) → Sized t → tableFits t ≡ true → tableFits (tableAfterAll t calls) ≡ true
+unfolding tableAfterAll
 run-fits t [] s h = h
 run-fits t (call ∷ calls) s h = run-fits (after t call) calls (step-sized t call s) (step-keeps t call s h)
 

@@ -1,89 +1,72 @@
--- Each event of a trace is a list of moves, on a table within its bounds, where the call keeps what is committed.
+-- Each event of a trace is a list of moves, where the call keeps what is committed.
 --
--- A new event joins here: it gets its own `-moves` lemma, its case in `step-moves`, and nothing above notices. The lemma has to
--- show that from the table before to the table after there are moves which write what `slotsRun` says of the call, in that order:
+-- A new event joins here: it gets its own `-moves` lemma and its case in `step-moves`, and the theorem stays as it is. The lemma
+-- has to show that from the table before to the table after there are moves which write what `slotsRun` says of the call, in that
+-- order:
 --   - a call that runs nothing and moves no bar is one move, by `quiet-moves`: no slot has run after it that had not before, the
 --     bars are as they were, and no slot is written;
---   - a bar that rises over committed slots is one move, by `rise-alters`;
+--   - a bar that rises is one move, by `rise-alters`;
 --   - attempts are moves by `attempt-moves` and `attempts-moves`;
 --   - moves one after the other are moves, by `moves-join`.
--- It also needs its cases in `step-sized` and `step-keeps` of crate steps: what the moves ask of the table stays so.
+-- The moves ask only that the table has its lengths, which is the event's case in `step-sized` (KeepLaws of steps). The other laws
+-- that go by events get their case too: in steps `step-config`, `step-keeps`, `step-room`, `ran-unrun` and `run-slots`; here
+-- `any-list`, `any-list-does` (ListLaws) and `step-outside` (BoundLaws); in controls `noticed`.
 use mathlib.Core.Path.{_≡_, refl, ap, _∙_}
-use mathlib.Core.Logic.{_⊎_, inl, inr, ⊎-elim}
-use mathlib.Core.Bool.{true, _&&_}
-use Prim.Native.Nat.{ℕ, _+_, _*_, _/_, _%_, _<_}
+use mathlib.Core.Logic.{_⊎_, ⊎-elim}
+use mathlib.Core.Bool.{true}
+use Prim.Native.Nat.{ℕ, _<_}
 use native.Mathlib.Decide.{ℕ-discrete, decLt}
 use native.Mathlib.Omega.{arith}
-use borrow.Author.Tests.{lt-ltb}
 use lib.ListN.{replicate}
 use Rattle.base.proofs.Loops.{both-true}
 use Rattle.slots.specs.Slot.{isExecuted}
 use Rattle.slots.specs.declared.slot.Slot.{Slot}
-use Rattle.bounds.specs.Bounds.{tableFits}
 use Rattle.table.specs.Place.{indexOf}
-use Rattle.table.specs.Table.{lenOf, barOf, slotNo, slotOf, putAt, storedAt}
+use Rattle.table.specs.Table.{barOf, slotNo, slotOf, putAt, storedAt}
 use Rattle.table.specs.declared.place.Place.{Place}
 use Rattle.table.specs.declared.table.Table.{Table}
 use Rattle.table.proofs.SlotReads.{put-elsewhere, stored-bars, nulls-bars}
-use Rattle.bounds.proofs.BoundLaws.{table-fits-each, put-either}
+use Rattle.bounds.proofs.BoundLaws.{put-either}
 use Rattle.outcomes.proofs.RefusalLaws.{Led, placed-row}
 use Rattle.attempts.specs.Refusal.{attemptRefusal}
 use Rattle.attempts.specs.Attempt.{attemptOn, attemptOr, attemptOf}
 use Rattle.attempts.proofs.RefusedLaws.{attempt-tried, refused-table}
 use Rattle.attempts.specs.Reads.{isHeldNo, depsOf, seqsOf}
-use Rattle.rising.specs.Bars.{isCommitted, risenBar}
+use Rattle.rising.specs.Bars.{risenBar}
 use Rattle.rising.specs.Attempts.{attemptsOn}
-use Rattle.rising.specs.Committed.{risenTable, onRisen, onCommitted}
+use Rattle.rising.specs.Committed.{risenTable, attemptedBelow, onRisen, onCommitted}
 use Rattle.base.specs.LogStatus.{statusNumber}
 use Rattle.logged.specs.Refusal.{loggedRefusal}
 use Rattle.logged.specs.Logged.{loggedOn}
 use Rattle.base.specs.declared.log_status.LogStatus.{LogStatus}
 use Rattle.base.specs.declared.log_status.LogStatus.the-variants.{PreAccepting, Accepting, Committed}
 use Rattle.logged.proofs.RefusedLaws.{logged-logged, logged-cases, refused-leaves}
-use Rattle.rising.proofs.BarLaws.{set-either, risen-at-least, risen-at-most, risen-over, committed-cases}
+use Rattle.rising.proofs.BarLaws.{set-either, risen-at-least, committed-cases}
 use Rattle.logged.proofs.BarLaws.{another-status-no-bar}
 use Rattle.logged.proofs.OnceLaws.{others-run-none}
 use Rattle.rising.proofs.CommittedLaws.{risen-keeps}
-use Rattle.logged.proofs.WithinLaws.{attempted, risen-in-rows}
+use Rattle.logged.proofs.WithinLaws.{risen-in-rows}
 use Rattle.steps.specs.Calls.{Call, propose, reply, prepare, log, try, leadAt}
 use Rattle.steps.specs.Step.{stepOf, after, slotsRun}
 use Rattle.steps.proofs.ChangeLaws.{Touched, as-was, filled-to, put-in, stored-in, proposed-touches, reply-touches, prepare-touches, lead-touches}
 use Rattle.steps.proofs.KeepLaws.{Sized, step-sized}
 use Rattle.steps.proofs.RoomLaws.{nulls-run}
 use Rattle.copies.specs.Copies.{keepsCommitted, Ran}
-use Rattle.copies.proofs.Moves.{Alters, alters, Moves, still, moves-one, moves-join}
+use Rattle.copies.proofs.Moves.{ran-held, Alters, alters, Moves, still, moves-one, moves-join}
 use Rattle.copies.proofs.ListLaws.{logged-slots, tried-slots}
-use Rattle.copies.proofs.SettledLaws.{held-low, ran-held, alters-slots}
+use Rattle.copies.proofs.SettledLaws.{held-low, alters-slots}
 use Rattle.copies.proofs.AttemptMoves.{attempt-moves, attempts-moves}
 
--- ---- a bar rises over what is committed
+-- ---- a bar rises
 
-module _ (t : Table) (row : ℕ) (h : tableFits t ≡ true) (l : row < 7) where
-  -- a slot below the risen bar was below it before, or the bar has passed it
-  risen-below : (i : ℕ) → i % 32 < barOf (risenTable t row) (i / 32) → (i % 32 < barOf t (i / 32)) ⊎ ((isHeldNo t i && isCommitted (slotNo t i)) ≡ true)
-  risen-below i b = ⊎-elim
-      (λ same. inl (omega arith))
-      (λ w. go (w .0) (omega (arith, w .1)) (decLt (i % 32) (barOf t (i / 32))))
-      (set-either (t .bars) row (risenBar t row) (i / 32))
-    where
-      go : i / 32 ≡ row → i % 32 < risenBar t row → Dec (i % 32 < barOf t (i / 32)) → (i % 32 < barOf t (i / 32)) ⊎ ((isHeldNo t i && isCommitted (slotNo t i)) ≡ true)
-      go e c (yes low) = inl low
-      go e c (no n) =
-          let fits = risen-at-most t row (table-fits-each t h .bars-fit row l) in
-          let held : isHeldNo t i ≡ true = lt-ltb (i % 32) (lenOf t (i / 32)) (rw e (omega arith)) in
-          let at : 32 * row + i % 32 ≡ i = omega arith in
-          inr (rw (held, ← at) (risen-over t row (i % 32) (omega (arith, ap (barOf t) e)) c))
-
-  rise-alters : Alters t (risenTable t row)
-  unfolding depsOf seqsOf
-  rise-alters = record {
-    committed = λ i c. c;
-    same = λ i c. record { seq = refl; deps = λ r m. refl };
-    ran = λ i r. r;
-    unrun = λ i r. r;
-    bars = λ r. ⊎-elim (λ same. omega arith) (λ w. omega (arith, w .1, ap (barOf t) (w .0), risen-at-least t row)) (set-either (t .bars) row (risenBar t row) r);
-    below = risen-below;
-  }
+pub rise-alters : (t : Table) (row : ℕ) → Alters t (risenTable t row)
+unfolding depsOf seqsOf
+rise-alters t row = record {
+  same = λ i c. record { seq = refl; deps = λ r m. refl };
+  ran = λ i r. r;
+  unrun = λ i r. r;
+  bars = λ r. ⊎-elim (λ same. omega arith) (λ w. omega (arith, w .1, ap (barOf t) (w .0), risen-at-least t row)) (set-either (t .bars) row (risenBar t row) r);
+}
 
 -- ---- Logged Committed
 
@@ -94,7 +77,7 @@ committed-moves t at s led =
     let l = placed-row (led .placed) in
     let row = at .row in
     committed-cases t at (λ a. Moves t (a .wrote) (a .table)) (λ _. still)
-    (λ _ r. moves-join (moves-one (alters (rise-alters t row h l))) (attempts-moves (risenTable t row) (attempted t row) (record { rows = s .rows; columns = s .columns }) (risen-keeps t row h l) (risen-in-rows t row h l r)))
+    (λ _ r. moves-join (moves-one (alters (rise-alters t row))) (attempts-moves (risenTable t row) (attemptedBelow t row) (record { rows = s .rows; columns = s .columns }) (risen-keeps t row h l) (risen-in-rows t row h l r)))
 
 -- ---- a call that runs nothing and moves no bar
 

@@ -1,21 +1,24 @@
 -- What a run is made of: moves of two kinds, an alteration that keeps what is committed, and an attempt that runs slots.
--- A table reached by moves from an empty one satisfies what Reached says, and two such tables run slots in the same order.
+-- A table reached by moves from an empty one satisfies what Reached says.
 use mathlib.Core.Path.{_≡_, refl, sym, subst}
 use mathlib.Core.List.{List, [], _++_, append-nil, append-assoc}
 use mathlib.Core.Logic.{_⊎_, inl, inr, ⊎-elim}
 use mathlib.Core.Bool.{true, false}
 use Prim.Native.Nat.{ℕ, _/_, _%_, _≤_, _<_}
 use native.Mathlib.Omega.{arith}
+use borrow.Author.Tests.{eqb-true, le-leb}
 use lib.ListN.{getD}
-use Rattle.table.specs.Table.{barOf}
+use Rattle.base.specs.Status.{rankOf}
+use Rattle.base.proofs.Loops.{both-true}
+use Rattle.table.specs.Table.{barOf, slotNo}
 use Rattle.table.specs.declared.table.Table.{Table}
 use Rattle.leads.specs.Depends.{numberIn, Depends, named, earlier, here, step}
 use Rattle.leads.proofs.PathLaws.{leads-on}
 use Rattle.order.specs.Listed.{Has, Once, none, Precedes}
 use Rattle.order.specs.Paper.{Mates}
 use Rattle.order.proofs.ListLaws.{clash, split, has-none, has-or, has-left, has-right, has-either, once-both, precedes-none, precedes-has, precedes-either, precedes-second, precedes-left, precedes-right, precedes-across}
-use Rattle.attempts.specs.Reads.{hasRun, depsOf, seqsOf}
-use Rattle.copies.specs.Copies.{holdsCommitted, Ran, LeadsTo, Key, Ordered}
+use Rattle.attempts.specs.Reads.{isHeldNo, hasRun, depsOf, seqsOf}
+use Rattle.copies.specs.Copies.{holdsCommitted, Ran, LeadsTo, Sooner, Ordered}
 
 -- ---- a slot
 
@@ -24,6 +27,14 @@ Committed t i = holdsCommitted t i ≡ true
 
 abbrev pub Below : Table → ℕ → Type 0
 Below t i = i % 32 < barOf t (i / 32)
+
+-- a slot that has run is in the table and Executed
+pub ran-held : (t : Table) (i : ℕ) → Ran t i → (isHeldNo t i ≡ true) × (rankOf (slotNo t i .status) ≡ 4)
+ran-held t i r = let w = both-true _ _ r in (w .0, eqb-true _ _ (w .1))
+
+-- so it counts as committed
+pub ran-committed : (t : Table) (i : ℕ) → Ran t i → Committed t i
+ran-committed t i r = let w = ran-held t i r in rw (w .0) (le-leb 3 (rankOf (slotNo t i .status)) (omega (arith, w .1)))
 
 -- slot i has the same sequence and dependencies
 pub record Same (t u : Table) (i : ℕ) : Type 0 where
@@ -35,14 +46,12 @@ same-sym s = record { seq = sym (s .seq); deps = λ row l. sym (s .deps row l) }
 
 -- ---- the moves
 
--- what is committed stays, nothing runs, and no bar falls or rises over what is not committed
+-- the contents of what is committed stay, what has run is what had run, and no bar falls
 pub record Alters (t u : Table) : Type 0 where
-  pub committed : (i : ℕ) → Committed t i → Committed u i
   pub same : (i : ℕ) → Committed t i → Same t u i
   pub ran : (i : ℕ) → Ran t i → Ran u i
   pub unrun : (i : ℕ) → Ran u i → Ran t i
   pub bars : (row : ℕ) → barOf t row ≤ barOf u row
-  pub below : (i : ℕ) → Below u i → Below t i ⊎ Committed u i
 
 -- slot s and all that it leads to are below the bars; those that had not run are written and run
 pub record Runs (t : Table) (s : ℕ) (w : List ℕ) (u : Table) : Type 0 where
@@ -53,7 +62,6 @@ pub record Runs (t : Table) (s : ℕ) (w : List ℕ) (u : Table) : Type 0 where
   pub ordered : Ordered t w
   pub marked : (i : ℕ) → Has i w → Ran u i
   pub others : (i : ℕ) → (Has i w → ⊥) → hasRun u i ≡ hasRun t i
-  pub committed : (i : ℕ) → Committed t i → Committed u i
   pub deps : depsOf u ≡ depsOf t
   pub seqs : seqsOf u ≡ seqsOf t
   pub bars : (row : ℕ) → barOf u row ≡ barOf t row
@@ -96,26 +104,20 @@ pub record Reached (h : List ℕ) (t : Table) : Type 0 where
   pub once : Once h
   pub closed : (i j : ℕ) → Ran t i → Depends (depsOf t) i j → Ran t j
   pub low : (i : ℕ) → Ran t i → Below t i
-  pub settled : (i : ℕ) → Below t i → Committed t i
   pub ordered : Ordered t h
 
--- nothing has run, and the bars are at 0
-pub reached-empty : (t : Table) → ((i : ℕ) → Ran t i → ⊥) → ((row : ℕ) → barOf t row ≡ 0) → Reached [] t
-reached-empty t unrun low = record {
+-- nothing has run
+pub reached-empty : (t : Table) → ((i : ℕ) → Ran t i → ⊥) → Reached [] t
+reached-empty t unrun = record {
   ran = λ i m. absurd (has-none i m);
   listed = λ i r. absurd (unrun i r);
   once = none;
   closed = λ i j r d. absurd (unrun i r);
   low = λ i r. absurd (unrun i r);
-  settled = λ i b. absurd (omega (arith, low (i / 32)));
   ordered = record { inner = λ i j m. absurd (has-none i m); outer = λ i j m. absurd (has-none i m); together = λ i j k m p. absurd (precedes-none i j p) };
 }
 
--- a slot that has run is committed
-pub ran-committed : {h : List ℕ} {t : Table} → Reached h t → (i : ℕ) → Ran t i → Committed t i
-ran-committed r i x = r .settled i (r .low i x)
-
--- all that it leads to has run too
+-- all that a slot which has run leads to has run too
 pub ran-leads : {h : List ℕ} {t : Table} → Reached h t → (i j : ℕ) → Ran t i → LeadsTo t i j → Ran t j
 ran-leads {t = t} r i j x l = leads-same {u = t} (Ran t) (r .closed) (λ _ _. record { seq = refl; deps = λ _ _. refl }) x l .1
 
@@ -137,7 +139,7 @@ ordered-still {h} {t} {u} r s = record {
     back : (i j : ℕ) → Has i h → LeadsTo u i j → LeadsTo t i j
     back i j m p = leads-same {u = t} (Ran t) (λ x y a d. r .closed x y a (depends-same (same-sym (s x a)) d)) (λ x a. same-sym (s x a)) (r .ran i m) p .0
 
-    key : (i j : ℕ) → Has i h → Has j h → Key (seqsOf u) i j → Key (seqsOf t) i j
+    key : (i j : ℕ) → Has i h → Has j h → Sooner (seqsOf u) i j → Sooner (seqsOf t) i j
     key i j m k v = rw (s i (r .ran i m) .seq, s j (r .ran j k) .seq) v
 
 reached-alters : {h : List ℕ} {t u : Table} → Reached h t → Alters t u → Reached h u
@@ -147,12 +149,11 @@ reached-alters {h} {t} {u} r a = record {
   once = r .once;
   closed = λ i j x d. a .ran j (r .closed i j (a .unrun i x) (depends-same (same-sym (same i (a .unrun i x))) d));
   low = λ i x. omega (arith, r .low i (a .unrun i x), a .bars (i / 32));
-  settled = λ i b. ⊎-elim (λ c. a .committed i (r .settled i c)) (λ c. c) (a .below i b);
   ordered = ordered-still r same;
 }
   where
     same : (i : ℕ) → Ran t i → Same t u i
-    same i x = a .same i (ran-committed r i x)
+    same i x = a .same i (ran-committed t i x)
 
 module _ {h w : List ℕ} {t u : Table} {s : ℕ} (r : Reached h t) (d : Runs t s w u) where
   -- slots of before, and those that the attempt has written
@@ -186,7 +187,7 @@ module _ {h w : List ℕ} {t u : Table} {s : ℕ} (r : Reached h t) (d : Runs t 
   never : (i j : ℕ) → Has i h → Has j w → LeadsTo u i j → ⊥
   never i j m k p = apart j (r .listed j (ran-leads r i j (r .ran i m) (rw (d .deps) at p))) k
 
-  run-inner : (i j : ℕ) → Has i h ⊎ Has i w → Has j h ⊎ Has j w → Mates (depsOf u) i j → Key (seqsOf u) i j → Precedes i j (h ++ w)
+  run-inner : (i j : ℕ) → Has i h ⊎ Has i w → Has j h ⊎ Has j w → Mates (depsOf u) i j → Sooner (seqsOf u) i j → Precedes i j (h ++ w)
   run-inner i j (inl m) (inl k) p v = precedes-left i j h w (old-order .inner i j m k p v)
   run-inner i j (inl m) (inr k) p v = absurd (never i j m k (p .0))
   run-inner i j (inr m) (inl k) p v = absurd (never j i k m (p .1))
@@ -231,7 +232,6 @@ module _ {h w : List ℕ} {t u : Table} {s : ℕ} (r : Reached h t) (d : Runs t 
     once = once-both h w (r .once) (d .once) apart;
     closed = λ i j x e. run-closed i j (has-either i h w (then-listed i x)) (rw (d .deps) at e);
     low = λ i x. run-low i (has-either i h w (then-listed i x));
-    settled = λ i b. d .committed i (r .settled i (omega (arith, d .bars (i / 32))));
     ordered = record {
       inner = λ i j m k. run-inner i j (has-either i h w m) (has-either j h w k);
       outer = λ i j m k. run-outer i j (has-either i h w m) (has-either j h w k);

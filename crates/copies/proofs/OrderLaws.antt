@@ -10,7 +10,7 @@ use Rattle.table.specs.declared.table.Table.{Table}
 use Rattle.order.specs.Listed.{Has, first, later, Precedes, now-then, both-later}
 use Rattle.order.proofs.ListLaws.{precedes-has, precedes-one-way}
 use Rattle.attempts.specs.Reads.{seqsOf}
-use Rattle.copies.specs.Copies.{Ran, LeadsTo, Key, SameOrder}
+use Rattle.copies.specs.Copies.{Ran, LeadsTo, Sooner, SameOrder}
 use Rattle.copies.proofs.Moves.{Committed, Same, same-sym, Reached, ran-committed, depends-same, leads-same}
 
 -- of two slots in a list one stands before the other
@@ -21,10 +21,10 @@ one-first i j L n (later m) (first f) = inr (now-then f m)
 one-first i j L n (later {L = K} m) (later k) = ⊎-elim (λ p. inl (both-later p)) (λ p. inr (both-later p)) (one-first i j K n m k)
 
 -- of two slots one has the lower key
-one-lower : (seq : List ℕ) (i j : ℕ) → (i ≡ j → ⊥) → Key seq i j ⊎ Key seq j i
+one-lower : (seq : List ℕ) (i j : ℕ) → (i ≡ j → ⊥) → Sooner seq i j ⊎ Sooner seq j i
 one-lower seq i j n = go (decLt (getD seq i 0) (getD seq j 0)) (decLt (getD seq j 0) (getD seq i 0)) (decLt i j)
   where
-    go : Dec (getD seq i 0 < getD seq j 0) → Dec (getD seq j 0 < getD seq i 0) → Dec (i < j) → Key seq i j ⊎ Key seq j i
+    go : Dec (getD seq i 0 < getD seq j 0) → Dec (getD seq j 0 < getD seq i 0) → Dec (i < j) → Sooner seq i j ⊎ Sooner seq j i
     go (yes a) b c = inl (inl a)
     go (no a) (yes b) c = inr (inl b)
     go (no a) (no b) (yes c) = inl (inr (omega arith, c))
@@ -43,7 +43,7 @@ Agree t u = (i : ℕ) → Committed t i → Committed u i → Same t u i
 
 module _ {g h : List ℕ} {t u : Table} (r : Reached g t) (s : Reached h u) (a : Agree t u) where
   both : (i : ℕ) → Ran t i × Ran u i → Same t u i
-  both i x = a i (ran-committed r i (x .0)) (ran-committed s i (x .1))
+  both i x = a i (ran-committed t i (x .0)) (ran-committed u i (x .1))
 
   -- what a slot that both have run leads to is the same in both
   leads-both : {i j : ℕ} → Ran t i → Ran u i → LeadsTo t i j → LeadsTo u i j
@@ -72,10 +72,10 @@ module _ {g h : List ℕ} {t u : Table} (r : Reached g t) (s : Reached h u) (a :
       no-back : (LeadsTo t j i → ⊥) → ⊥
       no-back n = precedes-one-way i j g (r .once) b (r .ordered .outer i j (in-g .0) (in-g .1) p n)
 
-      key : Key (seqsOf t) i j → Key (seqsOf u) i j
+      key : Sooner (seqsOf t) i j → Sooner (seqsOf u) i j
       key k = rw (both i run-i .seq, both j run-j .seq) at k
 
-      by-key : LeadsTo t j i → Key (seqsOf t) i j ⊎ Key (seqsOf t) j i → ⊥
+      by-key : LeadsTo t j i → Sooner (seqsOf t) i j ⊎ Sooner (seqsOf t) j i → ⊥
       by-key q (inl k) =
           precedes-one-way j i h (s .once) c
           (s .ordered .inner i j (in-h .1) (in-h .0) (leads-both (run-i .0) (run-i .1) p, leads-both (run-j .0) (run-j .1) q) (key k))

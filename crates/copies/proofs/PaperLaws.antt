@@ -13,9 +13,9 @@ use Rattle.order.specs.Paper.{Paper}
 use Rattle.order.proofs.ListLaws.{on-short}
 use Rattle.attempts.specs.Reads.{hasRun, depsOf, seqsOf}
 use Rattle.steps.proofs.KeepLaws.{Sized}
-use Rattle.copies.specs.Copies.{Copy, ends, ran, isSteady, Ran}
-use Rattle.copies.proofs.Moves.{Reached}
-use Rattle.copies.proofs.SettledLaws.{held-low, ran-held}
+use Rattle.copies.specs.Copies.{Copy, ends, historyOf, isSteady, Ran}
+use Rattle.copies.proofs.Moves.{ran-held, Reached}
+use Rattle.copies.proofs.SettledLaws.{held-low}
 use Rattle.copies.proofs.RunLaws.{copy-sized, copy-reached}
 
 -- the slots that have run
@@ -39,5 +39,5 @@ reached-paper {h} {t} r s = record {
   inside = λ i j m k mates lower. r .ordered .inner i j (r .listed i (on-ran s i m)) (r .listed j (on-ran s j k)) mates (inl lower);
 }
 
-pub history-paper : (c : Copy) → isSteady c ≡ true → Paper (depsOf (ends c)) (seqsOf (ends c)) (ranMarks (ends c)) (ran c)
+pub history-paper : (c : Copy) → isSteady c ≡ true → Paper (depsOf (ends c)) (seqsOf (ends c)) (ranMarks (ends c)) (historyOf c)
 history-paper c s = reached-paper (copy-reached c s) (copy-sized c)

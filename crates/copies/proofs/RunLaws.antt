@@ -14,18 +14,18 @@ use Rattle.table.specs.declared.table.Table.{Table}
 use Rattle.steps.specs.Calls.{Call}
 use Rattle.steps.specs.Step.{after}
 use Rattle.steps.proofs.KeepLaws.{Sized, empty-sized, step-sized}
-use Rattle.copies.specs.Copies.{keepsCommitted, tableAfter, history, keepsAll, Copy, begun, ends, ran, isSteady, Ran}
-use Rattle.copies.proofs.Moves.{Moves, still, moves-join, Reached, reached-empty, reached-moves}
-use Rattle.copies.proofs.SettledLaws.{both-are, ran-held}
+use Rattle.copies.specs.Copies.{keepsCommitted, tableAfterAll, history, keepsAll, Copy, begun, ends, historyOf, isSteady, Ran}
+use Rattle.copies.proofs.Moves.{ran-held, Moves, still, moves-join, Reached, reached-empty, reached-moves}
+use Rattle.copies.proofs.SettledLaws.{both-are}
 use Rattle.copies.proofs.EventMoves.{step-moves}
 
-pub run-sized : (t : Table) (calls : List Call) → Sized t → Sized (tableAfter t calls)
-unfolding tableAfter
+pub run-sized : (t : Table) (calls : List Call) → Sized t → Sized (tableAfterAll t calls)
+unfolding tableAfterAll
 run-sized t [] s = s
 run-sized t (call ∷ calls) s = run-sized (after t call) calls (step-sized t call s)
 
-run-moves : (t : Table) (calls : List Call) → Sized t → keepsAll t calls ≡ true → Moves t (history t calls) (tableAfter t calls)
-unfolding tableAfter history keepsAll
+run-moves : (t : Table) (calls : List Call) → Sized t → keepsAll t calls ≡ true → Moves t (history t calls) (tableAfterAll t calls)
+unfolding tableAfterAll history keepsAll
 run-moves t [] s k = still
 run-moves t (call ∷ calls) s k =
     let w = both-true _ _ k in
@@ -54,9 +54,9 @@ pub copy-sized : (c : Copy) → Sized (ends c)
 copy-sized c = run-sized (begun c) (c .calls) (empty-sized (c .config))
 
 -- a copy whose run keeps what is committed is reached by moves
-pub copy-reached : (c : Copy) → isSteady c ≡ true → Reached (ran c) (ends c)
+pub copy-reached : (c : Copy) → isSteady c ≡ true → Reached (historyOf c) (ends c)
 copy-reached c s =
-    reached-moves (reached-empty (begun c) (empty-unrun (c .config)) (open-empty (c .config) .no-bar))
+    reached-moves (reached-empty (begun c) (empty-unrun (c .config)))
     (run-moves (begun c) (c .calls) (empty-sized (c .config)) s)
 
 -- and so it is after each of its events

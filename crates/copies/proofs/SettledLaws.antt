@@ -1,11 +1,10 @@
 -- What the tests say: equal contents, what is committed kept, two tables that agree.
 use mathlib.Core.Path.{_≡_, sym, _∙_}
 use mathlib.Core.Bool.{Bool, true, false, not, true≢false, _&&_, _||_}
-use mathlib.Core.Logic.{inl}
 use Prim.Native.Nat.{ℕ, _/_, _%_, _<_, _≤_}
 use native.Mathlib.Decide.{decLt}
 use native.Mathlib.Omega.{arith}
-use borrow.Author.Tests.{ltb-true, leb-true, eqb-true, le-leb, eq-eqb}
+use borrow.Author.Tests.{ltb-true, leb-true, eqb-true, eq-eqb}
 use lib.ListN.{List·getD-eq-default}
 use Rattle.base.specs.Status.{rankOf}
 use Rattle.base.specs.declared.status.Status.{Status}
@@ -21,7 +20,7 @@ use Rattle.attempts.proofs.ReadLaws.{deps-number, seqs-at}
 use Rattle.steps.proofs.KeepLaws.{Sized}
 use Rattle.copies.specs.Copies.{holdsCommitted, sameSlot, keepsSlot, keepsCommitted, agreesOn, agree, Ran}
 use Rattle.copies.proofs.Moves as moves
-use Rattle.copies.proofs.Moves.{Same, Alters}
+use Rattle.copies.proofs.Moves.{ran-held, ran-committed, Same, Alters}
 use Rattle.copies.proofs.OrderLaws.{Agree}
 
 -- one of two tests passes, and it is not the first
@@ -64,13 +63,6 @@ rank-most Accepting = omega arith
 rank-most Committed = omega arith
 rank-most Executed = omega arith
 
--- a slot that has run is in the table and Executed, and so counts as committed
-pub ran-held : (t : Table) (i : ℕ) → Ran t i → (isHeldNo t i ≡ true) × (rankOf (slotNo t i .status) ≡ 4)
-ran-held t i r = let w = both-true _ _ r in (w .0, eqb-true _ _ (w .1))
-
-ran-committed : (t : Table) (i : ℕ) → Ran t i → moves.Committed t i
-ran-committed t i r = let w = ran-held t i r in rw (w .0) (le-leb 3 (rankOf (slotNo t i .status)) (omega (arith, w .1)))
-
 -- ---- what is committed is kept
 
 -- what the test says of a slot that is committed
@@ -97,9 +89,6 @@ module _ (t u : Table) (sized : Sized t) (keeps : keepsCommitted t u ≡ true) w
         same = same-contents t u i l (h .0) (w .0) (v .1);
       }
 
-  still-committed : (i : ℕ) → moves.Committed t i → moves.Committed u i
-  still-committed i c = let k = kept i c in rw (k .still-held) (le-leb 3 (rankOf (slotNo u i .status)) (omega (arith, k .settled, k .not-lower)))
-
   still-run : (i : ℕ) → Ran t i → Ran u i
   still-run i r =
       let k = kept i (ran-committed t i r) in
@@ -108,12 +97,10 @@ module _ (t u : Table) (sized : Sized t) (keeps : keepsCommitted t u ≡ true) w
   -- a call that runs nothing and moves no bar
   pub alters-slots : ((i : ℕ) → Ran u i → Ran t i) → u .bars ≡ t .bars → Alters t u
   alters-slots unrun bars = record {
-    committed = still-committed;
     same = λ i c. kept i c .same;
     ran = still-run;
     unrun = unrun;
     bars = λ row. rw bars (omega arith);
-    below = λ i b. inl (rw bars at b);
   }
 
 -- ---- two tables agree

@@ -5,11 +5,11 @@ use mathlib.Core.Bool.{true, _&&_}
 use Prim.Native.Nat.{ℕ}
 use lib.Dec.{eqb}
 use Rattle.base.proofs.Loops.{both-true}
-use Rattle.copies.specs.Copies.{Copy, ends, ran, isSteady, agree, comparable, Claimed, Claims}
+use Rattle.copies.specs.Copies.{Copy, ends, historyOf, isSteady, agree, comparable, Claimed, Claims}
 use Rattle.copies.proofs.Moves.{Reached, ran-leads}
 use Rattle.copies.proofs.OrderLaws.{agree-sym, same-order}
 use Rattle.copies.proofs.SettledLaws.{agree-same}
-use Rattle.copies.proofs.AttemptClaim.{all-or-nothing}
+use Rattle.copies.proofs.AttemptClaim.{all-or-nothing, each-all-or-nothing}
 use Rattle.copies.proofs.RunLaws.{firstOf, copy-sized, copy-reached, first-steady}
 
 -- of one copy, whatever the other does
@@ -22,10 +22,11 @@ one-copy c s =
       ordered = r .ordered;
       whole = λ k. ran-leads (first k);
       attempts = λ k. all-or-nothing (first k) (copy-sized (firstOf k c));
+      logged = λ k. each-all-or-nothing (first k) (copy-sized (firstOf k c));
     }
   where
     -- what holds after its first k events
-    first : (k : ℕ) → Reached (ran (firstOf k c)) (ends (firstOf k c))
+    first : (k : ℕ) → Reached (historyOf (firstOf k c)) (ends (firstOf k c))
     first k = copy-reached (firstOf k c) (first-steady k c s)
 
 pub two-copies : (a b : Copy) → comparable a b ≡ true → Claims a b

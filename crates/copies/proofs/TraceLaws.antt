@@ -1,4 +1,4 @@
--- Every trace that is not refused at its header or for its length is the run of a copy, so what is shown of copies is shown of traces.
+-- A trace that is not refused as a whole is the run of its copy, so what is shown of copies is shown of traces.
 use mathlib.Core.Path.{_≡_, refl, ap, subst}
 use mathlib.Core.List.{List, [], _∷_, _++_}
 use mathlib.Core.Bool.{Bool, true, false, cond}
@@ -11,79 +11,86 @@ use Rattle.table.specs.Table.{emptyTable}
 use Rattle.table.specs.declared.table.Table.{Table}
 use Rattle.groups.specs.Cursor.{goesOn}
 use Rattle.reading.specs.Events.{headerOf, Found}
-use Rattle.reading.specs.declared.events.HeaderRead.{HeaderRead}
 use Rattle.steps.specs.Calls.{Call}
 use Rattle.steps.specs.Step.{after, slotsRun}
-use Rattle.trace.specs.Trace.{Played, ended, first, saidOf, refusedWith, foundAt, playedFrom, Trace, refused, played, openedTrace, fromConfig, fromHeader, traceOf}
-use Rattle.copies.specs.Copies.{tableAfter, history, Copy}
-use Rattle.copies.specs.Traces.{slotsIn, IsRunOf}
+use Rattle.steps.proofs.KeepLaws.{step-config}
+use Rattle.trace.specs.Trace.{Played, ended, first, saidOf, refusedWith, foundAt, playedFrom, Trace, refused, played, fromConfig, fromHeader, traceOf}
+use Rattle.copies.specs.Copies.{tableAfterAll, history}
+use Rattle.copies.specs.Traces.{callsFrom, copyOf, slotsIn, IsRunOf}
 
--- calls from a table on that come to what was played
-record Calls (t : Table) (p : Played) : Type 0 where
-  calls : List Call
+-- ---- from a table on
+
+-- what was played is what the calls come to
+record Plays (t : Table) (calls : List Call) (p : Played) : Type 0 where
   slots : slotsIn (p .said) ≡ history t calls
-  table : p .table ≡ tableAfter t calls
+  table : p .table ≡ tableAfterAll t calls
 
-no-calls : (t : Table) → Calls t (ended t)
-unfolding slotsIn history tableAfter
-no-calls t = record { calls = []; slots = refl; table = refl }
+no-calls : (t : Table) → Plays t [] (ended t)
+unfolding slotsIn history tableAfterAll
+no-calls t = record { slots = refl; table = refl }
 
 -- an event that cannot be read is no call
-unread : (t : Table) (number : ℕ) → Calls t (first (refusedWith number) (ended t))
-unfolding slotsIn history tableAfter
-unread t number = record { calls = []; slots = refl; table = refl }
+unread : (t : Table) (number : ℕ) → Plays t [] (first (refusedWith number) (ended t))
+unfolding slotsIn history tableAfterAll
+unread t number = record { slots = refl; table = refl }
 
-one-more : (t : Table) (call : Call) (p : Played) → Calls (after t call) p → Calls t (first (saidOf t call) p)
-unfolding slotsIn history tableAfter
-one-more t call p c = record { calls = call ∷ c .calls; slots = ap (λ (l : List ℕ). slotsRun t call ++ l) (c .slots); table = c .table }
+one-more : (t : Table) (call : Call) (calls : List Call) (p : Played) → Plays (after t call) calls p → Plays t (call ∷ calls) (first (saidOf t call) p)
+unfolding slotsIn history tableAfterAll
+one-more t call calls p c = record { slots = ap (λ (l : List ℕ). slotsRun t call ++ l) (c .slots); table = c .table }
 
 -- past the end, one that cannot be read, or an event
-turn-calls : (t : Table) (f : Found) (p : Played) (more read : Bool) → Calls (after t (f .call)) p
-    → Calls t (cond more (cond read (first (saidOf t (f .call)) p) (first (refusedWith (f .cursor .refusal)) (ended t))) (ended t))
-turn-calls t f p true true c = one-more t (f .call) p c
-turn-calls t f p true false c = unread t (f .cursor .refusal)
-turn-calls t f p false read c = no-calls t
+turn-plays : (t : Table) (f : Found) (calls : List Call) (p : Played) (more read : Bool) → Plays (after t (f .call)) calls p
+    → Plays t (cond more (cond read (f .call ∷ calls) []) [])
+    (cond more (cond read (first (saidOf t (f .call)) p) (first (refusedWith (f .cursor .refusal)) (ended t))) (ended t))
+turn-plays t f calls p true true c = one-more t (f .call) calls p c
+turn-plays t f calls p true false c = unread t (f .cursor .refusal)
+turn-plays t f calls p false read c = no-calls t
 
-played-calls : (many : ℕ) (s : List ℕ) (t : Table) (at : ℕ) → Calls t (playedFrom many s t at)
-unfolding playedFrom
-played-calls zero s t at = no-calls t
-played-calls (suc many) s t at =
+played-plays : (many : ℕ) (s : List ℕ) (t : Table) (at : ℕ) → Plays t (callsFrom many (t .config .n) s at) (playedFrom many s t at)
+unfolding playedFrom callsFrom
+played-plays zero s t at = no-calls t
+played-plays (suc many) s t at =
     let f = foundAt s t at in
-    turn-calls t f _ (ltb at (length s)) (goesOn (f .cursor)) (played-calls many s (after t (f .call)) (f .cursor .at))
+    let u = after t (f .call) in
+    let next = f .cursor .at in
+    turn-plays t f (callsFrom many (t .config .n) s next) (playedFrom many s u next) (ltb at (length s)) (goesOn (f .cursor))
+    (subst (λ (c : Config). Plays u (callsFrom many (c .n) s next) (playedFrom many s u next)) (step-config t (f .call)) (played-plays many s u next))
 
 -- ---- a whole trace
 
--- what is claimed of a trace, refused or played
-abbrev HasCopy : Trace → Type 0
-HasCopy (refused number) = Unit
-HasCopy (played p) = (c : Copy) × IsRunOf c p
+module _ (s : List ℕ) where
+  -- what is claimed of it, refused or played
+  abbrev IsRun : Trace → Type 0
+  IsRun (refused number) = Unit
+  IsRun (played p) = IsRunOf (copyOf s) p
 
-opened-copy : (s : List ℕ) (config : Config) (at : ℕ) → configFits config ≡ true → HasCopy (openedTrace s config at)
-opened-copy s config at f =
-    let c = played-calls (length s) s (emptyTable config) at in
-    (record { config = config; calls = c .calls }, record { opened = f; slots = c .slots; table = c .table })
+  opened-run : configFits (headerOf s .config) ≡ true → IsRunOf (copyOf s) (playedFrom (length s) s (emptyTable (headerOf s .config)) (headerOf s .cursor .at))
+  unfolding emptyTable
+  opened-run f =
+      let c = played-plays (length s) s (emptyTable (headerOf s .config)) (headerOf s .cursor .at) in
+      record { opened = f; slots = c .slots; table = c .table }
 
-config-copy : (s : List ℕ) (h : HeaderRead) → HasCopy (fromConfig s h)
-config-copy s h = go (configFits (h .config)) refl
-  where
-    go : (b : Bool) → configFits (h .config) ≡ b → HasCopy (cond b (openedTrace s (h .config) (h .cursor .at)) (refused 1))
-    go true f = opened-copy s (h .config) (h .cursor .at) f
-    go false f = tt
+  config-run : IsRun (fromConfig s (headerOf s))
+  config-run = go (configFits (headerOf s .config)) refl
+    where
+      go : (b : Bool) → configFits (headerOf s .config) ≡ b → IsRun (cond b (played (playedFrom (length s) s (emptyTable (headerOf s .config)) (headerOf s .cursor .at))) (refused 1))
+      go true f = opened-run f
+      go false f = tt
 
-header-copy : (s : List ℕ) (h : HeaderRead) → HasCopy (fromHeader s h)
-header-copy s h = go (goesOn (h .cursor))
-  where
-    go : (b : Bool) → HasCopy (cond b (fromConfig s h) (refused (h .cursor .refusal)))
-    go true = config-copy s h
-    go false = tt
+  header-run : IsRun (fromHeader s (headerOf s))
+  header-run = go (goesOn (headerOf s .cursor))
+    where
+      go : (b : Bool) → IsRun (cond b (fromConfig s (headerOf s)) (refused (headerOf s .cursor .refusal)))
+      go true = config-run
+      go false = tt
 
-trace-has-copy : (s : List ℕ) → HasCopy (traceOf s)
-unfolding traceOf
-trace-has-copy s = go (leb (length s) 65536)
-  where
-    go : (b : Bool) → HasCopy (cond b (fromHeader s (headerOf s)) (refused 11))
-    go true = header-copy s (headerOf s)
-    go false = tt
+  trace-run : IsRun (traceOf s)
+  unfolding traceOf
+  trace-run = go (leb (length s) 65536)
+    where
+      go : (b : Bool) → IsRun (cond b (fromHeader s (headerOf s)) (refused 11))
+      go true = header-run
+      go false = tt
 
-pub trace-copy : (s : List ℕ) (p : Played) → traceOf s ≡ played p → (c : Copy) × IsRunOf c p
-trace-copy s p e = subst HasCopy e (trace-has-copy s)
+  pub trace-copy : (p : Played) → traceOf s ≡ played p → IsRunOf (copyOf s) p
+  trace-copy p e = subst IsRun e trace-run

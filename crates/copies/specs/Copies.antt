@@ -10,6 +10,7 @@ use lib.ListN.{getD, take}
 use Rattle.base.specs.Below.{allBelow}
 use Rattle.base.specs.Status.{rankOf}
 use Rattle.base.specs.declared.answer.Answer.the-variants.{Refused}
+use Rattle.base.specs.declared.log_status.LogStatus.the-variants.{Committed}
 use Rattle.base.specs.declared.config.Config.{Config}
 use Rattle.votes.specs.Contents.{contentsOf, sameContents}
 use Rattle.slots.specs.declared.slot.Slot.{Slot}
@@ -21,8 +22,10 @@ use Rattle.leads.specs.Depends.{Leads}
 use Rattle.order.specs.Listed.{Has, Once, Precedes}
 use Rattle.order.specs.Paper.{Mates}
 use Rattle.attempts.specs.Reads.{isHeldNo, hasRun, depsOf, seqsOf}
+use Rattle.attempts.specs.Attempt.{answerOf, written, attemptOn}
 use Rattle.rising.specs.Bars.{isCommitted}
-use Rattle.steps.specs.Calls.{Call, try}
+use Rattle.rising.specs.Committed.{attemptedBelow, risenTable, rises}
+use Rattle.steps.specs.Calls.{Call, log, try}
 use Rattle.steps.specs.Step.{answerTo, after, slotsRun}
 
 -- ---- a table
@@ -47,9 +50,9 @@ keepsCommitted t u = allBelow 224 (keepsSlot t u)
 
 -- ---- a run: events of a trace, one after the other
 
-unfoldable pub tableAfter : Table → List Call → Table
-tableAfter t [] = t
-tableAfter t (call ∷ calls) = tableAfter (after t call) calls
+unfoldable pub tableAfterAll : Table → List Call → Table
+tableAfterAll t [] = t
+tableAfterAll t (call ∷ calls) = tableAfterAll (after t call) calls
 
 -- the history: the slots run, as each event writes them to the order list
 unfoldable pub history : Table → List Call → List ℕ
@@ -72,14 +75,14 @@ begun c = emptyTable (c .config)
 
 -- the table after its first k events
 abbrev pub tableAt : Copy → ℕ → Table
-tableAt c k = tableAfter (begun c) (take k (c .calls))
+tableAt c k = tableAfterAll (begun c) (take k (c .calls))
 
 -- and after all
 abbrev pub ends : Copy → Table
-ends c = tableAfter (begun c) (c .calls)
+ends c = tableAfterAll (begun c) (c .calls)
 
-abbrev pub ran : Copy → List ℕ
-ran c = history (begun c) (c .calls)
+abbrev pub historyOf : Copy → List ℕ
+historyOf c = history (begun c) (c .calls)
 
 -- ---- what is asked of two copies
 
@@ -108,14 +111,14 @@ Ran t i = hasRun t i ≡ true
 abbrev pub LeadsTo : Table → ℕ → ℕ → Type 0
 LeadsTo t i j = Leads (depsOf t) i j
 
--- inside a component: by sequence, then row and column
-abbrev pub Key : List ℕ → ℕ → ℕ → Type 0
-Key seq i j = (getD seq i 0 < getD seq j 0) ⊎ ((getD seq i 0 ≡ getD seq j 0) × (i < j))
+-- of two slots of one component: by sequence, then row and column
+abbrev pub Sooner : List ℕ → ℕ → ℕ → Type 0
+Sooner seq i j = (getD seq i 0 < getD seq j 0) ⊎ ((getD seq i 0 ≡ getD seq j 0) × (i < j))
 
 -- slots in a history stand by the rule, whatever order their events came in
 pub record Ordered (t : Table) (h : List ℕ) : Type 0 where
-  -- two slots of one component stand by their key
-  pub inner : (i j : ℕ) → Has i h → Has j h → Mates (depsOf t) i j → Key (seqsOf t) i j → Precedes i j h
+  -- of two slots of one component the sooner stands first
+  pub inner : (i j : ℕ) → Has i h → Has j h → Mates (depsOf t) i j → Sooner (seqsOf t) i j → Precedes i j h
   -- a slot stands after those that it leads to
   pub outer : (i j : ℕ) → Has i h → Has j h → LeadsTo t i j → (LeadsTo t j i → ⊥) → Precedes j i h
   -- a component stands together
@@ -129,46 +132,57 @@ SameOrder i j g h = (Precedes i j g ↔ Precedes i j h) × (Precedes j i g ↔ P
 abbrev pub Awaits : Table → Place → ℕ → Type 0
 Awaits t at i = LeadsTo t (indexOf at) i × (hasRun t i ≡ false)
 
--- an attempt runs all of these, each once, and no other
-pub record RunsAll (t : Table) (at : Place) : Type 0 where
-  pub written : (i : ℕ) → Has i (slotsRun t (try at)) ↔ Awaits t at i
-  pub once : Once (slotsRun t (try at))
-  pub then-run : (i : ℕ) → Ran (after t (try at)) i ↔ (Ran t i ⊎ Awaits t at i)
+-- an attempt, which writes w and leaves u, runs all of these, each once, and no other
+pub record RunsAll (t : Table) (at : Place) (w : List ℕ) (u : Table) : Type 0 where
+  pub wrote : (i : ℕ) → Has i w ↔ Awaits t at i
+  pub once : Once w
+  pub then-run : (i : ℕ) → Ran u i ↔ (Ran t i ⊎ Awaits t at i)
 
 -- or nothing: no slot is written, and the table stays
-abbrev pub RunsNothing : Table → Place → Type 0
-RunsNothing t at = (slotsRun t (try at) ≡ []) × (after t (try at) ≡ t)
+abbrev pub RunsNothing : Table → List ℕ → Table → Type 0
+RunsNothing t w u = (w ≡ []) × (u ≡ t)
 
 -- one of these is not below its row's commit bar
 abbrev pub Blocked : Table → Place → Type 0
 Blocked t at = (i : ℕ) × Awaits t at i × (i % 32 < barOf t (i / 32) → ⊥)
 
-pub record AllOrNothing (t : Table) (at : Place) : Type 0 where
-  pub either : RunsAll t at ⊎ RunsNothing t at
-  pub nothing-exactly : RunsNothing t at ↔ Blocked t at
+pub record AllOrNothing (t : Table) (at : Place) (w : List ℕ) (u : Table) : Type 0 where
+  pub either : RunsAll t at w u ⊎ RunsNothing t w u
+  pub nothing-exactly : RunsNothing t w u ↔ Blocked t at
 
--- an attempt is not refused, and its slot has not yet run
-pub record NextAttempt (t : Table) (at : Place) : Type 0 where
-  pub not-refused : (number : ℕ) → answerTo t (try at) ≡ Refused number → ⊥
-  pub not-run : hasRun t (indexOf at) ≡ false
+abbrev pub NotRefused : Table → Call → Type 0
+NotRefused t call = (number : ℕ) → answerTo t call ≡ Refused number → ⊥
+
+abbrev pub NotRun : Table → Place → Type 0
+NotRun t at = hasRun t (indexOf at) ≡ false
+
+-- attempts one after the other, each on the table that the one before leaves
+abbrev pub EachAllOrNothing : Table → List Place → Type 0
+EachAllOrNothing t [] = Unit
+EachAllOrNothing t (at ∷ rest) =
+    (NotRun t at → AllOrNothing t at (written (answerOf t at) t at) (attemptOn t at .table)) × EachAllOrNothing (attemptOn t at .table) rest
 
 -- of each copy
 pub record Claimed (c : Copy) : Type 0 where
   -- no slot runs twice
-  pub once : Once (ran c)
+  pub once : Once (historyOf c)
   -- the history is exactly the slots that have run
-  pub exactly : (i : ℕ) → Has i (ran c) ↔ Ran (ends c) i
+  pub exactly : (i : ℕ) → Has i (historyOf c) ↔ Ran (ends c) i
   -- it is in the order of the rule
-  pub ordered : Ordered (ends c) (ran c)
+  pub ordered : Ordered (ends c) (historyOf c)
   -- after any of its events, all that a slot which has run leads to has run too
   pub whole : (k i j : ℕ) → Ran (tableAt c k) i → LeadsTo (tableAt c k) i j → Ran (tableAt c k) j
-  -- an attempt after any of its events runs all or nothing
-  pub attempts : (k : ℕ) (at : Place) → NextAttempt (tableAt c k) at → AllOrNothing (tableAt c k) at
+  -- an attempt not refused, on a slot not yet run, after any of its events
+  pub attempts : (k : ℕ) (at : Place) → NotRefused (tableAt c k) (try at) → NotRun (tableAt c k) at
+      → AllOrNothing (tableAt c k) at (slotsRun (tableAt c k) (try at)) (after (tableAt c k) (try at))
+  -- and each attempt that a slot logged Committed sets going, where its row's bar rises
+  pub logged : (k : ℕ) (at : Place) → NotRefused (tableAt c k) (log Committed at) → rises (tableAt c k) at ≡ true
+      → EachAllOrNothing (risenTable (tableAt c k) (at .row)) (attemptedBelow (tableAt c k) (at .row))
 
 -- of the two
 pub record Claims (a b : Copy) : Type 0 where
   -- where one slot leads to another and both copies have run both, the order is the same
   pub order : (i j : ℕ) → LeadsTo (ends a) i j ⊎ LeadsTo (ends b) i j → Ran (ends a) i → Ran (ends a) j → Ran (ends b) i → Ran (ends b) j
-      → SameOrder i j (ran a) (ran b)
+      → SameOrder i j (historyOf a) (historyOf b)
   pub first : Claimed a
   pub second : Claimed b

@@ -37,7 +37,7 @@ use Rattle.logged.specs.Refusal.{loggedRefusal}
 use Rattle.logged.specs.Replies.{myReply, ownReply}
 use Rattle.rising.specs.Bars.{risenBar, withBar}
 use Rattle.rising.specs.Attempts.{attemptsOn}
-use Rattle.rising.specs.Committed.{risenTable, onRisen, onCommitted}
+use Rattle.rising.specs.Committed.{risenTable, attemptedBelow, onRisen, onCommitted}
 use Rattle.logged.specs.Logged.{entriesOn, loggedOn, orderOn, loggedOf, loggedOrder}
 use Rattle.base.specs.declared.log_status.LogStatus.{LogStatus}
 use Rattle.base.specs.declared.log_status.LogStatus.the-variants.{PreAccepting, Accepting, Committed}
@@ -45,7 +45,7 @@ use Rattle.logged.proofs.RefusedLaws.{logged-logged, logged-cases, tabl
 use Rattle.rising.proofs.BarLaws.{attempt-only-slots, committed-cases}
 use Rattle.rising.proofs.AttemptsLaws.{InRows, attempts-fall}
 use Rattle.rising.proofs.CommittedLaws.{risen-keeps}
-use Rattle.logged.proofs.WithinLaws.{attempted, risen-in-rows}
+use Rattle.logged.proofs.WithinLaws.{risen-in-rows}
 
 -- ---- what ran, between a table and a later one
 
@@ -174,11 +174,11 @@ risen-executes t row bar w =
 module _ (t : Table) (at : Place) where
   -- where the bar rises, what is written is what each of the attempts writes
   pub committed-writes : at .col ≡ barOf t (at .row) → barOf t (at .row) < risenBar t (at .row)
-      → onCommitted t at .wrote ≡ flatMap writtenBy (triesOf (risenTable t (at .row)) (attempted t (at .row)))
+      → onCommitted t at .wrote ≡ flatMap writtenBy (triesOf (risenTable t (at .row)) (attemptedBelow t (at .row)))
   unfolding onCommitted onRisen
   committed-writes e l =
       rw (eq-eqb (at .col) (barOf t (at .row)) e, lt-ltb (barOf t (at .row)) (risenBar t (at .row)) l)
-      (wrote-each (risenTable t (at .row)) (attempted t (at .row)))
+      (wrote-each (risenTable t (at .row)) (attemptedBelow t (at .row)))
 
   -- else nothing is, and the table stays
   pub committed-nothing : (at .col ≡ barOf t (at .row) → barOf t (at .row) < risenBar t (at .row) → ⊥) → (onCommitted t at .table ≡ t) × (onCommitted t at .wrote ≡ [])
@@ -192,7 +192,7 @@ module _ (t : Table) (at : Place) (h : tableFits t ≡ true) (l : at .row < 7) w
   fits : tableFits risen ≡ true
   fits = risen-keeps t (at .row) h l
 
-  in-rows : barOf t (at .row) < risenBar t (at .row) → InRows (attempted t (at .row))
+  in-rows : barOf t (at .row) < risenBar t (at .row) → InRows (attemptedBelow t (at .row))
   in-rows r = risen-in-rows t (at .row) h l r
 
   pub committed-executes : Executes t (onCommitted t at .table) (onCommitted t at .wrote)
@@ -200,7 +200,7 @@ module _ (t : Table) (at : Place) (h : tableFits t ≡ true) (l : at .row < 7) w
   committed-executes =
       committed-cases t at (λ a. Executes t (a .table) (a .wrote))
       (λ _. none-executes t)
-      (λ _ r. risen-executes t (at .row) (risenBar t (at .row)) (attempts-execute risen (attempted t (at .row)) fits (in-rows r)))
+      (λ _ r. risen-executes t (at .row) (risenBar t (at .row)) (attempts-execute risen (attemptedBelow t (at .row)) fits (in-rows r)))
 
   -- no more than a list of 224 entries holds
   committed-room : length (onCommitted t at .wrote) ≤ 224
@@ -208,7 +208,7 @@ module _ (t : Table) (at : Place) (h : tableFits t ≡ true) (l : at .row < 7) w
   committed-room =
       committed-cases t at (λ a. length (a .wrote) ≤ 224)
       (λ _. omega arith)
-      (λ _ r. omega (arith, attempts-fall risen (attempted t (at .row)) fits (in-rows r), count-at-most (λ i. not (hasRun risen i)) 224))
+      (λ _ r. omega (arith, attempts-fall risen (attemptedBelow t (at .row)) fits (in-rows r), count-at-most (λ i. not (hasRun risen i)) 224))
 
 -- ---- an AcceptReply from myself runs nothing
 

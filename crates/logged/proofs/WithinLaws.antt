@@ -21,7 +21,7 @@ use Rattle.attempts.specs.Attempt.{answerOf, attemptOn}
 use Rattle.logged.specs.Replies.{myReply, ownReply}
 use Rattle.rising.specs.Bars.{risenBar}
 use Rattle.rising.specs.Attempts.{isNotYet, attemptsOn}
-use Rattle.rising.specs.Committed.{tailsBelow, attemptedFrom, risenTable, onRisen}
+use Rattle.rising.specs.Committed.{tailsBelow, attemptedFrom, risenTable, attemptedBelow, onRisen}
 use Rattle.logged.specs.Logged.{loggedOf}
 use Rattle.base.specs.declared.log_status.LogStatus.{LogStatus}
 use Rattle.logged.proofs.RefusedLaws.{table-cases}
@@ -55,10 +55,6 @@ own-keeps t at ballot h = kept-outcome t (acceptReply t (myReply t at ballot)) (
 
 -- ---- a slot logged Committed
 
--- the slots that are attempted once a row's bar has risen
-abbrev pub attempted : Table → ℕ → List Place
-attempted t row = attemptedFrom (risenTable t row) (placeOf row (risenBar t row - 1))
-
 attempted-in-rows : (t : Table) (tail : Place) → tail .row < 7 → tail .col < 32 → InRows (attemptedFrom t tail)
 unfolding attemptedFrom
 attempted-in-rows t tail l m = (l, m, go (isNotYet (answerOf t tail)))
@@ -68,12 +64,12 @@ attempted-in-rows t tail l m = (l, m, go (isNotYet (answerOf t tail)))
     go false = tails-in-rows (attemptOn t tail .table) 7 (omega arith)
 
 module _ (t : Table) (row : ℕ) (h : tableFits t ≡ true) (l : row < 7) (r : barOf t row < risenBar t row) where
-  pub risen-in-rows : InRows (attempted t row)
+  pub risen-in-rows : InRows (attemptedBelow t row)
   risen-in-rows = attempted-in-rows (risenTable t row) (placeOf row (risenBar t row - 1)) l (tail-column t row h l r)
 
   on-risen-keeps : tableFits (onRisen t row .table) ≡ true
   unfolding onRisen
-  on-risen-keeps = attempts-keep (risenTable t row) (attempted t row) (risen-keeps t row h l) risen-in-rows
+  on-risen-keeps = attempts-keep (risenTable t row) (attemptedBelow t row) (risen-keeps t row h l) risen-in-rows
 
 -- ---- the event
 

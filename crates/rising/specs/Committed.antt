@@ -41,8 +41,12 @@ attemptedFrom t tail = tail ∷ cond (isNotYet (answerOf t tail)) [] (tailsBelow
 abbrev pub risenTable : Table → ℕ → Table
 risenTable t row = withBar t row (risenBar t row)
 
+-- the slots that are attempted once a row's bar has risen
+abbrev pub attemptedBelow : Table → ℕ → List Place
+attemptedBelow t row = attemptedFrom (risenTable t row) (placeOf row (risenBar t row - 1))
+
 unfoldable pub onRisen : Table → ℕ → Attempts
-onRisen t row = attemptsOn (risenTable t row) (attemptedFrom (risenTable t row) (placeOf row (risenBar t row - 1)))
+onRisen t row = attemptsOn (risenTable t row) (attemptedBelow t row)
 
 -- where the column is the row's bar, and the bar rises
 abbrev pub rises : Table → Place → Bool

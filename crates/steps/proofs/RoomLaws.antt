@@ -31,7 +31,7 @@ use Rattle.attempts.proofs.RefusedLaws.{attempt-tried}
 use Rattle.base.specs.LogStatus.{statusNumber}
 use Rattle.rising.specs.Bars.{risenBar}
 use Rattle.rising.specs.Attempts.{attemptsOn}
-use Rattle.rising.specs.Committed.{risenTable, onRisen, onCommitted}
+use Rattle.rising.specs.Committed.{risenTable, attemptedBelow, onRisen, onCommitted}
 use Rattle.logged.specs.Refusal.{loggedRefusal}
 use Rattle.logged.specs.Logged as logged
 use Rattle.logged.specs.Logged.{entriesOn, loggedOn, loggedOr, loggedOf, loggedOrder}
@@ -42,7 +42,7 @@ use Rattle.logged.proofs.RefusedLaws.{logged-logged, logged-cases}
 use Rattle.rising.proofs.BarLaws.{set-either, committed-cases}
 use Rattle.rising.proofs.AttemptsLaws.{attempts-fall}
 use Rattle.rising.proofs.CommittedLaws.{risen-keeps, bar-unrun}
-use Rattle.logged.proofs.WithinLaws.{attempted, risen-in-rows}
+use Rattle.logged.proofs.WithinLaws.{risen-in-rows}
 use Rattle.logged.proofs.OnceLaws.{attempt-executes, committed-executes, others-run-none}
 use Rattle.steps.specs.Calls.{Call, propose, reply, prepare, log, try, leadAt}
 use Rattle.steps.specs.Step.{stepOf, after, slotsRun}
@@ -149,7 +149,7 @@ module _ (t : Table) (at : Place) (entries : ℕ) where
       let l = placed-row (led .placed) in
       committed-cases t at (λ a. unrun (a .table) + length (a .wrote) ≤ unrun t)
       (λ _. omega arith)
-      (λ _ r. omega (arith, attempts-fall (risenTable t (at .row)) (attempted t (at .row)) (risen-keeps t (at .row) h l) (risen-in-rows t (at .row) h l r), bar-unrun t (at .row) (risenBar t (at .row))))
+      (λ _ r. omega (arith, attempts-fall (risenTable t (at .row)) (attemptedBelow t (at .row)) (risen-keeps t (at .row) h l) (risen-in-rows t (at .row) h l r), bar-unrun t (at .row) (risenBar t (at .row))))
 
   log-falls : (status : LogStatus) → Falls (loggedOf t at status entries)
   unfolding loggedOn
