@@ -8,9 +8,10 @@ use table::table::Table;
 pub(crate) fn is_below_bars(table: Table, reached: DepSet) -> bool
     ensures { λ r. ⌜ r ≡ allBelowBars table (reached .cols) ⌝ }
 {
+    let bars = table.bars;
     let mut row: usize = 0;
     while row < 7 {
-        if table.bars[row] < reached.cols[row] as usize {
+        if bars[row] < reached.cols[row] as usize {
             return false;
         }
         row += 1;
@@ -42,7 +43,7 @@ pub(crate) fn run(table: Table, marks: [bool; 224]) -> Table
     let mut i: usize = 0;
     while i < 224 {
         if marks[i] {
-            let slot = table.slots[i];
+            let slot = out.slots[i];
             out.slots[i] = slot.run();
         }
         i += 1;

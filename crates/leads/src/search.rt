@@ -34,7 +34,12 @@ fn visit(deps: &[u8; 1568], seen: DepSet, row: usize, k: usize) -> DepSet
         let mut marked = seen;
         marked.cols[row] = (col + 1) as u8;
         let below = rows(deps, marked, 32 * row + col);
-        visit(deps, below, row, k)
+        let next = below.cols[row] as usize;
+        if next < k {
+            visit(deps, below, row, k)
+        } else {
+            below
+        }
     }
 }
 

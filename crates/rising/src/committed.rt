@@ -25,7 +25,8 @@ pub fn committed(table: Table, at: Place, order: &mut [u8]) -> Ran
     ensures list { λ r. ⌜ now (order .exit) ≡ sets (now (order .entry)) 0 (onCommitted table at .wrote) ⌝ }
 {
     let row = at.row;
-    let bar = table.bars[row];
+    let bars = table.bars;
+    let bar = bars[row];
     if at.col != bar {
         return Ran {
             table: table,

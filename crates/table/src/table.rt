@@ -49,7 +49,8 @@ impl Table {
         if 32 <= at.col {
             return false;
         }
-        at.col < self.lens[row]
+        let lens = self.lens;
+        at.col < lens[row]
     }
 
     pub fn slot(self, at: Place) -> Slot
@@ -94,11 +95,12 @@ impl Table {
         ensures { λ r. ⌜ r ≡ nullsTo self at ⌝ }
     {
         let row = at.row;
-        let len = self.lens[row];
-        let mut out = self;
+        let lens = self.lens;
+        let len = lens[row];
         if at.col < len {
-            return out;
+            return self;
         }
+        let mut out = self;
         let mut col = len;
         while col <= at.col {
             out.slots[32 * row + col] = Slot::NULL;

@@ -1,22 +1,23 @@
--- `attempts::gather::deps` meets its contract: the numbers up to k so far.
+-- `attempts::gather::deps` meets its contract: the numbers of the slots so far.
 use mathlib.Core.Path.{_≡_, refl, ap, _∙_}
 use mathlib.Core.List.{List}
 use mathlib.Core.Logic.{⊎-elim}
-use Prim.Native.Nat.{ℕ, _≤_, _-_, _/_, _%_}
+use Prim.Native.Nat.{ℕ, _≤_, _-_, _+_, _*_}
 use native.Mathlib.Omega.{arith}
-use lib.ListN.{set}
+use lib.Seq.{sets}
 use borrow.Author.Needs.{needs}
+use Rattle.base.specs.Below.{listBelow}
 use Rattle.deps.specs.Sets.{number}
 use Rattle.table.specs.Table.{slotNo}
-use Rattle.attempts.proofs.FillLaws.{depsTo, deps-held, deps-absent, deps-all}
+use Rattle.attempts.proofs.FillLaws.{depsTo, slot-held, slot-absent, deps-all}
 use Rattle.attempts.proofs.gather.deps.Statement.{statement}
 use Rattle.attempts.proofs.gather.deps.Tie as tie
 
 abbrev Inv-loop : tie.InvT-loop
-Inv-loop table out₀ k₀ out k = (k ≤ 1568) × (out ≡ depsTo table k)
+Inv-loop table out₀ i₀ out i = (i ≤ 224) × (out ≡ depsTo table (7 * i))
 
 abbrev μ-loop : tie.MeasureT-loop
-μ-loop table out₀ k₀ out k = 1568 - k
+μ-loop table out₀ i₀ out i = 224 - i
 
 loop-holds : tie.Need-loop-holds Inv-loop μ-loop
 loop-holds c = search needs
@@ -33,14 +34,11 @@ mul-slot c = search needs
 element-copy-out-slot : tie.Need-element-copy-out-slot Inv-loop μ-loop
 element-copy-out-slot c = search needs
 
-element-copy-out-out : tie.Need-element-copy-out-out Inv-loop μ-loop
-element-copy-out-out c = search needs
+put-set-requires : tie.Need-put-set-requires Inv-loop μ-loop
+put-set-requires c κs = search needs
 
-array-write-out : tie.Need-array-write-out Inv-loop μ-loop
-array-write-out c = search needs
-
-add-k : tie.Need-add-k Inv-loop μ-loop
-add-k c = search needs
+add-i : tie.Need-add-i Inv-loop μ-loop
+add-i c = search needs
 
 loop-less : tie.Need-loop-less Inv-loop μ-loop
 loop-less c = search needs
@@ -48,16 +46,17 @@ loop-less c = search needs
 loop-again : tie.Need-loop-again Inv-loop μ-loop
 loop-again c =
     let l = c .before .before .before .loop in
-    let t = c .before .before .before .before .args .t1 in (
+    let t = c .before .before .before .before .args .t1 in
+    let next : 7 * l .i + 7 ≡ 7 * (l .i + 1) = omega arith in (
       omega arith,
       ⊎-elim
-          (λ w. w .4 ∙ ap (λ (x : List ℕ). set x (l .k) (number (slotNo t (l .k / 7) .deps) (l .k % 7))) (l .inv .1) ∙ deps-held t (l .k) _ (omega arith) (omega (arith, w .0)) refl)
-          (λ w. w .1 ∙ l .inv .1 ∙ deps-absent t (l .k) (omega arith) (omega (arith, w .0)))
+          (λ w. w .4 ∙ w .3 .ensures ∙ ap (λ (x : List ℕ). sets x (7 * l .i) (listBelow 7 (number (slotNo t (l .i) .deps)))) (l .inv .1) ∙ slot-held t (l .i) 7 (omega arith) (omega arith) (omega (arith, w .0)) ∙ ap (depsTo t) next)
+          (λ w. w .1 ∙ l .inv .1 ∙ slot-absent t (l .i) 7 (omega arith) (omega arith) (omega (arith, w .0)) ∙ ap (depsTo t) next)
           (c .if1 .came),
     )
 
 returns : tie.Need-returns Inv-loop μ-loop
-returns c = c .before .loop .inv .1 ∙ deps-all (c .before .before .args .t1) (c .before .loop .k) (omega arith)
+returns c = c .before .loop .inv .1 ∙ deps-all (c .before .before .args .t1) (7 * c .before .loop .i) (omega arith)
 
 pub deps-spec : {M : Type 1} → statement M
 deps-spec =
@@ -70,9 +69,8 @@ deps-spec =
     element-copy-out-if1
     mul-slot
     element-copy-out-slot
-    element-copy-out-out
-    array-write-out
-    add-k
+    put-set-requires
+    add-i
     loop-less
     loop-again
     returns)

@@ -1,9 +1,11 @@
 -- `attempts::waiting::is_below_bars` meets its contract: the rows so far.
 use mathlib.Core.Path.{_≡_, sym}
-use mathlib.Core.Bool.{true}
-use Prim.Native.Nat.{_≤_, _-_}
+use mathlib.Core.Bool.{Bool, true}
+use mathlib.Core.List.{List}
+use Prim.Native.Nat.{ℕ, _≤_, _-_}
 use native.Mathlib.Omega.{arith}
 use borrow.Author.Tests.{le-leb, lt-leb}
+use lib.Dec.{leb}
 use lib.ListN.{getD}
 use Rattle.table.specs.Table.{barOf}
 use borrow.Author.Needs.{needs}
@@ -13,11 +15,15 @@ use Rattle.attempts.specs.Attempt.{rowBelowBar, allBelowBars}
 use Rattle.attempts.proofs.waiting.is_below_bars.Statement.{statement}
 use Rattle.attempts.proofs.waiting.is_below_bars.Tie as tie
 
+-- `rowBelowBar`, of the bars alone
+abbrev below : List ℕ → List ℕ → ℕ → Bool
+below bars F row = leb (getD F row 0) (getD bars row 0)
+
 abbrev Inv-loop : tie.InvT-loop
-Inv-loop table reached row₀ row = (row ≤ 7) × (allBelow row (rowBelowBar table (reached .cols)) ≡ true)
+Inv-loop reached bars row₀ row = (row ≤ 7) × (allBelow row (below bars (reached .cols)) ≡ true)
 
 abbrev μ-loop : tie.MeasureT-loop
-μ-loop table reached row₀ row = 7 - row
+μ-loop reached bars row₀ row = 7 - row
 
 loop-holds : tie.Need-loop-holds Inv-loop μ-loop
 loop-holds c = (omega arith, all-none _)
@@ -25,11 +31,11 @@ loop-holds c = (omega arith, all-none _)
 mul-if1 : tie.Need-mul-if1 Inv-loop μ-loop
 mul-if1 c = search needs
 
+array-read-if1 : tie.Need-array-read-if1 Inv-loop μ-loop
+array-read-if1 c = search needs
+
 element-copy-out-if1 : tie.Need-element-copy-out-if1 Inv-loop μ-loop
 element-copy-out-if1 c = search needs
-
-element-copy-out-if1-2 : tie.Need-element-copy-out-if1-2 Inv-loop μ-loop
-element-copy-out-if1-2 c = search needs
 
 cast-if1 : tie.Need-cast-if1 Inv-loop μ-loop
 cast-if1 c = search needs
@@ -37,9 +43,9 @@ cast-if1 c = search needs
 returns : tie.Need-returns Inv-loop μ-loop
 unfolding allBelowBars
 returns c =
-    let l = c .before .before .before .before .loop in
+    let l = c .before .before .before .loop in
     let a = c .before .before .before .before .before .args in
-    sym (all-not (rowBelowBar (a .t1) (a .t2 .cols)) 7 (l .row) (omega arith) (lt-leb (getD (a .t2 .cols) (l .row) 0) (barOf (a .t1) (l .row)) (omega arith)))
+    sym (all-not (rowBelowBar (a .table) (a .t2 .cols)) 7 (l .row) (omega arith) (lt-leb (getD (a .t2 .cols) (l .row) 0) (barOf (a .table) (l .row)) (omega arith)))
 
 add-row : tie.Need-add-row Inv-loop μ-loop
 add-row c = search needs
@@ -49,15 +55,14 @@ loop-less c = search needs
 
 loop-again : tie.Need-loop-again Inv-loop μ-loop
 loop-again c =
-    let l = c .before .before .before .before .loop in
+    let l = c .before .before .before .loop in
     let a = c .before .before .before .before .before .args in
-    (omega arith, all-more (rowBelowBar (a .t1) (a .t2 .cols)) (l .row) (l .inv .1) (le-leb (getD (a .t2 .cols) (l .row) 0) (barOf (a .t1) (l .row)) (omega arith)))
+    (omega arith, all-more (rowBelowBar (a .table) (a .t2 .cols)) (l .row) (l .inv .1) (le-leb (getD (a .t2 .cols) (l .row) 0) (barOf (a .table) (l .row)) (omega arith)))
 
 returns-2 : tie.Need-returns-2 Inv-loop μ-loop
 unfolding allBelowBars
 returns-2 c =
     let l = c .before .loop in
-    let a = c .before .before .args in
     let e : l .row ≡ 7 = omega arith in
     sym (rw e at (l .inv .1))
 
@@ -69,8 +74,8 @@ is-below-bars-spec =
     μ-loop
     loop-holds
     mul-if1
+    array-read-if1
     element-copy-out-if1
-    element-copy-out-if1-2
     cast-if1
     returns
     add-row

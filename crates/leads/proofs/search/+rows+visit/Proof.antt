@@ -244,6 +244,22 @@ visit-rows-requires t c κs =
     let len = bytes-length w8 7 (a .args .t2 .cols) _ (a .good .1 .0 .1 .1 .0) in
     (omega (arith, a .pre .0, put-room (a .args .t2 .cols) (a .args .row) (omega arith) (omega arith) (omega arith)), (a .pre .1 .0, omega arith))
 
+visit-element-copy-out-next : (t : ℕ) → visit-lts.Need-element-copy-out-next (
+  rows-below t,
+  rows.Post,
+  visit-below t,
+  visit.Post,
+) (visit-at t) visit.Post
+visit-element-copy-out-next t c = omega arith
+
+visit-cast-next : (t : ℕ) → visit-lts.Need-cast-next (
+  rows-below t,
+  rows.Post,
+  visit-below t,
+  visit.Post,
+) (visit-at t) visit.Post
+visit-cast-next t c = search needs
+
 visit-visit-requires : (t : ℕ) → visit-lts.Need-visit-requires (
   rows-below t,
   rows.Post,
@@ -251,11 +267,11 @@ visit-visit-requires : (t : ℕ) → visit-lts.Need-visit-requires (
   visit.Post,
 ) (visit-at t) visit.Post
 visit-visit-requires t c κs =
-    let a = c .before .before .before in
+    let a = c .before .before .before .before .before in
     let f = a .args .t2 .cols in
     let len = bytes-length w8 7 f _ (a .good .1 .0 .1 .1 .0) in
     let less = put-room f (a .args .row) (omega arith) (omega arith) (omega arith) in
-    let kept = room-le (set f (a .args .row) (getD f (a .args .row) 0 + 1)) (c .rows .result .cols) 7 (c .rows .ensures .grown .kept) in
+    let kept = room-le (set f (a .args .row) (getD f (a .args .row) 0 + 1)) (c .before .before .rows .result .cols) 7 (c .before .before .rows .ensures .grown .kept) in
     (omega (arith, a .pre .0), (a .pre .1 .0, omega arith))
 
 visit-returns : (t : ℕ) → visit-lts.Need-returns (
@@ -275,11 +291,27 @@ visit-returns-2 : (t : ℕ) → visit-lts.Need-returns-2 (
   visit.Post,
 ) (visit-at t) visit.Post
 visit-returns-2 t c =
-    let s = c .before .before .before .before in
+    let r = c .before .before .before in
+    let s = r .before .before .before in
     let a = s .args in
     let len = bytes-length w8 7 (a .t2 .cols) _ (s .good .1 .0 .1 .1 .0) in
-    visit-more (now (a .deps)) (a .row) (a .k) (a .t2 .cols) (c .before .rows .result .cols) (c .visit .result .cols) (omega arith) (omega arith) (omega arith)
-    (c .before .rows .ensures) (c .visit .ensures)
+    visit-more (now (a .deps)) (a .row) (a .k) (a .t2 .cols) (r .rows .result .cols) (c .visit .result .cols) (omega arith) (omega arith) (omega arith)
+    (r .rows .ensures) (c .visit .ensures)
+
+visit-returns-3 : (t : ℕ) → visit-lts.Need-returns-3 (
+  rows-below t,
+  rows.Post,
+  visit-below t,
+  visit.Post,
+) (visit-at t) visit.Post
+visit-returns-3 t c =
+    let r = c .before .before in
+    let s = r .before .before .before in
+    let a = s .args in
+    let len = bytes-length w8 7 (a .t2 .cols) _ (s .good .1 .0 .1 .1 .0) in
+    let all = visit-in (now (a .deps)) (a .row) (a .k) (r .rows .result .cols) (omega arith) in
+    visit-more (now (a .deps)) (a .row) (a .k) (a .t2 .cols) (r .rows .result .cols) (r .rows .result .cols) (omega arith) (omega arith) (omega arith)
+    (r .rows .ensures) all
 
 pub +rows+visit-spec : {M : Type 1} → statement M
 +rows+visit-spec =
@@ -315,6 +347,9 @@ pub +rows+visit-spec : {M : Type 1} → statement M
     (visit-mul-rows t)
     (visit-add-rows t)
     (visit-rows-requires t)
+    (visit-element-copy-out-next t)
+    (visit-cast-next t)
     (visit-visit-requires t)
     (visit-returns t)
     (visit-returns-2 t)
+    (visit-returns-3 t)

@@ -23,8 +23,8 @@ abbrev μ-loop : tie.MeasureT-loop
 mul-len : tie.Need-mul-len Inv-loop μ-loop
 mul-len c = search needs
 
-element-copy-out-len : tie.Need-element-copy-out-len Inv-loop μ-loop
-element-copy-out-len c = search needs
+array-read-len : tie.Need-array-read-len Inv-loop μ-loop
+array-read-len c = search needs
 
 returns : tie.Need-returns Inv-loop μ-loop
 unfolding nullsTo
@@ -32,18 +32,18 @@ returns c = simp (lt-ltb _ _ (c .if1 .taken))
 
 loop-holds : tie.Need-loop-holds Inv-loop μ-loop
 loop-holds c =
-    let t = c .before .before .before .args .t1 in
+    let t = c .before .before .before .args .self in
     let l : length (t .slots) ≡ 224 = search (needs, length-mapped) in
     (search needs, search needs, ap (withSlots t) (sym (nulls-none t _ l)))
 
-mul-t24 : tie.Need-mul-t24 Inv-loop μ-loop
-mul-t24 c = search needs
+mul-t23 : tie.Need-mul-t23 Inv-loop μ-loop
+mul-t23 c = search needs
 
-add-t25 : tie.Need-add-t25 Inv-loop μ-loop
-add-t25 c = search needs
+add-t24 : tie.Need-add-t24 Inv-loop μ-loop
+add-t24 c = search needs
 
-mul-t26 : tie.Need-mul-t26 Inv-loop μ-loop
-mul-t26 c = search needs
+mul-t25 : tie.Need-mul-t25 Inv-loop μ-loop
+mul-t25 c = search needs
 
 element-set-from-out : tie.Need-element-set-from-out Inv-loop μ-loop
 element-set-from-out c = search needs
@@ -58,7 +58,7 @@ loop-again : tie.Need-loop-again Inv-loop μ-loop
 loop-again c =
     let o = c .before .before in
     let a = o .before .before .before .before .args in
-    let t = a .t1 in
+    let t = a .self in
     let from = 32 * a .at .row + getD (t .lens) (a .at .row) 0 in
     let to = 32 * a .at .row + o .loop .col in
     let inv = o .loop .inv in
@@ -79,7 +79,7 @@ returns-2 c =
     let o = c .before .before .before in
     let s = o .before in
     let a = s .before .before .before .args in
-    let t = a .t1 in
+    let t = a .self in
     let row = a .at .row in
     let len = getD (t .lens) row 0 in
     let e : o .loop .col ≡ suc (a .at .col) = omega arith in
@@ -93,12 +93,12 @@ fill-spec =
     Inv-loop
     μ-loop
     mul-len
-    element-copy-out-len
+    array-read-len
     returns
     loop-holds
-    mul-t24
-    add-t25
-    mul-t26
+    mul-t23
+    add-t24
+    mul-t25
     element-set-from-out
     add-col
     loop-less

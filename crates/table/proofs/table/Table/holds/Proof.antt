@@ -15,8 +15,8 @@ returns : tie.Need-returns
 unfolding holds
 returns c =
     let a = c .before .args in
-    let l : length (a .t1 .lens) ≡ 7 = search needs in
-    let e : getD (a .t1 .lens) (a .at .row) 0 ≡ 0 = List·getD-eq-default (a .t1 .lens) 0 (omega arith) in
+    let l : length (a .self .lens) ≡ 7 = search needs in
+    let e : getD (a .self .lens) (a .at .row) 0 ≡ 0 = List·getD-eq-default (a .self .lens) 0 (omega arith) in
     sym (rw (e, le-ltb (a .at .col) 0 (omega arith)) (and-false (ltb (a .at .col) 32)))
 
 returns-2 : tie.Need-returns-2
@@ -26,12 +26,12 @@ returns-2 c = simp (le-ltb _ _ (c .if2 .taken))
 mul-result : tie.Need-mul-result
 mul-result c = search needs
 
-element-copy-out-result : tie.Need-element-copy-out-result
-element-copy-out-result c = search needs
+array-read-result : tie.Need-array-read-result
+array-read-result c = search needs
 
 returns-3 : tie.Need-returns-3
 unfolding holds
 returns-3 c = simp (lt-ltb _ _ (c .before .before .if2 .left))
 
 pub holds-spec : {M : Type 1} → statement M
-holds-spec = tie.close (tie.spec returns returns-2 mul-result element-copy-out-result returns-3)
+holds-spec = tie.close (tie.spec returns returns-2 mul-result array-read-result returns-3)
