@@ -92,6 +92,22 @@ fn timers(config: &plain::Config, silent: &[usize]) -> HashMap<ReplicaId, Timer>
     (0..config.n).filter(|r| *r != config.own).map(|r| (small(r), Timer(silent.contains(&r)))).collect()
 }
 
+/// Takes no memory and frees none where the batch is the same: what is timed next is not to meet a heap that was stirred.
+fn put_back(held: &mut Instance, before: &Instance) {
+    if held.reqs != before.reqs {
+        held.reqs.clone_from(&before.reqs);
+    }
+    held.deps.0.clone_from(&before.deps.0);
+    held.leader_bk.clone_from(&before.leader_bk);
+    held.replica_bk.clone_from(&before.replica_bk);
+    held.bal = before.bal;
+    held.status = before.status;
+    held.seq = before.seq;
+    held.external = before.external;
+    held.avoid_fast_path = before.avoid_fast_path;
+    held.wal_offset = before.wal_offset;
+}
+
 /// The Rust's union.
 pub fn union(a: &Deps, b: &Deps) -> Deps {
     let mut set = DepSet(a.clone());
@@ -108,6 +124,46 @@ pub fn identified(n: usize, stores: &[(SlotAt, Vec<Request>)], batch: &[Request]
     EPaxosReplica::identify_deps(&batch_of(batch), small(n), &highest).0
 }
 
+/// What a fast decision is asked with, in the Rust's own form.
+pub struct FastAsked {
+    config: plain::Config,
+    avoided: bool,
+    leader: LeaderBookkeeping,
+    timers: HashMap<ReplicaId, Timer>,
+}
+
+/// What it answers, in the Rust's own form.
+pub struct FastAnswer(Option<(Status, SeqNum, DepSet)>);
+
+impl FastAsked {
+    pub fn new(config: &plain::Config, avoided: bool, replies: &[Reply], silent: &[usize]) -> Self {
+        let mut leader = unled(config.n);
+        leader.pre_accept_acks = marked(config.n, replies.iter().map(|r| r.replica));
+        leader.pre_accept_replies =
+            replies.iter().map(|r| (small(r.replica), (r.seq, DepSet(r.deps.clone())))).collect();
+        FastAsked { config: *config, avoided, leader, timers: timers(config, silent) }
+    }
+
+    pub fn decide(&self) -> FastAnswer {
+        let c = &self.config;
+        FastAnswer(EPaxosReplica::fast_quorum_eligibility(
+            small(c.own),
+            self.avoided,
+            &self.leader,
+            &self.timers,
+            small(c.n),
+            small(c.simple),
+            small(c.sup),
+        ))
+    }
+}
+
+impl FastAnswer {
+    pub fn plain(self) -> Option<(plain::Status, u64, Deps)> {
+        self.0.map(|(status, seq, deps)| (plain_status(status), seq, deps.0))
+    }
+}
+
 /// The Rust's fast decision.
 pub fn fast(
     config: &plain::Config,
@@ -115,34 +171,89 @@ pub fn fast(
     replies: &[Reply],
     silent: &[usize],
 ) -> Option<(plain::Status, u64, Deps)> {
-    let mut leader = unled(config.n);
-    leader.pre_accept_acks = marked(config.n, replies.iter().map(|r| r.replica));
-    leader.pre_accept_replies = replies.iter().map(|r| (small(r.replica), (r.seq, DepSet(r.deps.clone())))).collect();
-    EPaxosReplica::fast_quorum_eligibility(
-        small(config.own),
-        avoided,
-        &leader,
-        &timers(config, silent),
-        small(config.n),
-        small(config.simple),
-        small(config.sup),
-    )
-    .map(|(status, seq, deps)| (plain_status(status), seq, deps.0))
+    FastAsked::new(config, avoided, replies, silent).decide().plain()
+}
+
+/// What a recovery choice is asked with, in the Rust's own form.
+pub struct ChoiceAsked {
+    row: ReplicaId,
+    leader: LeaderBookkeeping,
+    n: u8,
+    simple: u8,
+    default: Ballot,
+}
+
+/// What it answers, in the Rust's own form.
+pub struct ChoiceAnswer(Option<(Status, SeqNum, DepSet, ReqBatch)>);
+
+impl ChoiceAsked {
+    pub fn new(n: usize, simple: usize, prepare: &Prepare) -> Self {
+        let mut leader = unled(n);
+        leader.exp_prepare_acks = marked(n, prepare.acks.iter().copied());
+        leader.exp_prepare_max_bal = prepare.highest;
+        for v in &prepare.votes {
+            let c = &v.contents;
+            let voted = (status_of(v.status), c.seq, DepSet(c.deps.clone()), batch_of(&c.batch));
+            leader.exp_prepare_voteds.insert(small(v.replica), voted);
+        }
+        ChoiceAsked { row: small(prepare.row), leader, n: small(n), simple: small(simple), default: prepare.default }
+    }
+
+    pub fn choose(&self) -> ChoiceAnswer {
+        DEFAULT_BALLOT.set(self.default);
+        ChoiceAnswer(EPaxosReplica::exp_prepare_next_step(self.row, &self.leader, self.n, self.simple))
+    }
+}
+
+impl ChoiceAnswer {
+    pub fn plain(self) -> Option<(plain::Status, Contents)> {
+        self.0.map(|(status, seq, deps, reqs)| (plain_status(status), plain_contents(seq, &deps, &reqs)))
+    }
 }
 
 /// The Rust's recovery choice.
 pub fn choice(n: usize, simple: usize, prepare: &Prepare) -> Option<(plain::Status, Contents)> {
-    let mut leader = unled(n);
-    leader.exp_prepare_acks = marked(n, prepare.acks.iter().copied());
-    leader.exp_prepare_max_bal = prepare.highest;
-    for v in &prepare.votes {
-        let c = &v.contents;
-        let voted = (status_of(v.status), c.seq, DepSet(c.deps.clone()), batch_of(&c.batch));
-        leader.exp_prepare_voteds.insert(small(v.replica), voted);
+    ChoiceAsked::new(n, simple, prepare).choose().plain()
+}
+
+/// A message in the Rust's own form: making it is no part of hearing it.
+#[derive(Clone)]
+pub struct Prepared(PeerMsg);
+
+impl Prepared {
+    pub fn store(what: Store, (row, col): SlotAt, ballot: u64, contents: &Contents) -> Self {
+        let slot = SlotIdx(small(row), col);
+        let (seq, deps, reqs) = (contents.seq, DepSet(contents.deps.clone()), batch_of(&contents.batch));
+        Prepared(match what {
+            Store::PreAccept => PeerMsg::PreAccept { slot, ballot, seq, deps, reqs },
+            Store::Accept => PeerMsg::Accept { slot, ballot, seq, deps, reqs },
+            Store::CommitNotice => PeerMsg::CommitNotice { slot, ballot, seq, deps, reqs },
+        })
     }
-    DEFAULT_BALLOT.set(prepare.default);
-    EPaxosReplica::exp_prepare_next_step(small(prepare.row), &leader, small(n), small(simple))
-        .map(|(status, seq, deps, reqs)| (plain_status(status), plain_contents(seq, &deps, &reqs)))
+
+    pub fn accept_reply((row, col): SlotAt, ballot: u64) -> Self {
+        Prepared(PeerMsg::AcceptReply { slot: SlotIdx(small(row), col), ballot })
+    }
+
+    pub fn exp_prepare((row, col): SlotAt, new_ballot: u64) -> Self {
+        Prepared(PeerMsg::ExpPrepare { slot: SlotIdx(small(row), col), new_ballot })
+    }
+}
+
+fn instance_of(n: usize, slot: &Slot) -> Instance {
+    let (c, marks) = (&slot.contents, |bits| Bitmap { size: small(n), bits });
+    Instance {
+        bal: slot.ballot,
+        status: status_of(slot.status),
+        seq: c.seq,
+        deps: DepSet(c.deps.clone()),
+        reqs: batch_of(&c.batch),
+        leader_bk: slot.marks.map(|bits| LeaderBookkeeping { accept_acks: marks(bits), ..unled(n) }),
+        replica_bk: slot.source.map(|peer| ReplicaBookkeeping { source: small(peer) }),
+        external: false,
+        avoid_fast_path: false,
+        wal_offset: 0,
+    }
 }
 
 /// A replica that begins empty.
@@ -168,6 +279,34 @@ impl Replica {
             external_api: ExternalApi,
             heartbeater: Heartbeater { timers: timers(config, &[]) },
         })
+    }
+
+    /// One that holds a table. What has run has been reported to it, so that its own bars stand behind that.
+    pub fn holding(config: &plain::Config, table: &Table) -> Self {
+        let mut held = Replica::new(config);
+        let instances = |row: &Vec<Slot>| row.iter().map(|slot| instance_of(config.n, slot)).collect();
+        let run = |row: &Vec<Slot>| row.iter().take_while(|slot| slot.status == plain::Status::Executed).count();
+        held.0.insts = table.rows.iter().map(instances).collect();
+        held.0.highest_cols = table.keys.iter().map(|(k, set)| (k.to_string(), DepSet(set.clone()))).collect();
+        held.0.commit_bars.clone_from(&table.bars);
+        held.0.exec_bars = table.rows.iter().map(run).collect();
+        held
+    }
+
+    /// Makes the table that of another that has as many slots, and empties the hubs.
+    pub fn put_back(&mut self, other: &Replica) {
+        for (row, before) in self.0.insts.iter_mut().zip(&other.0.insts) {
+            assert_eq!(row.len(), before.len(), "as many slots as before");
+            row.iter_mut().zip(before).for_each(|(held, before)| put_back(held, before));
+        }
+        if self.0.highest_cols != other.0.highest_cols {
+            self.0.highest_cols.clone_from(&other.0.highest_cols);
+        }
+        self.0.commit_bars.clone_from(&other.0.commit_bars);
+        self.0.exec_bars.clone_from(&other.0.exec_bars);
+        self.0.storage_hub.got.clear();
+        self.0.transport_hub.got.clear();
+        self.0.state_machine.got.clear();
     }
 
     pub fn own(&self) -> usize {
@@ -204,27 +343,20 @@ impl Replica {
         1 + self.0.max_seq_num(&mine)
     }
 
-    fn receive(&mut self, peer: usize, message: PeerMsg) {
-        now(self.0.handle_msg_recv(small(peer), message)).expect("a message within the bounds");
+    pub fn hear(&mut self, peer: usize, message: Prepared) {
+        now(self.0.handle_msg_recv(small(peer), message.0)).expect("a message within the bounds");
     }
 
-    pub fn store(&mut self, what: Store, peer: usize, (row, col): SlotAt, ballot: u64, contents: &Contents) {
-        let slot = SlotIdx(small(row), col);
-        let (seq, deps, reqs) = (contents.seq, DepSet(contents.deps.clone()), batch_of(&contents.batch));
-        let message = match what {
-            Store::PreAccept => PeerMsg::PreAccept { slot, ballot, seq, deps, reqs },
-            Store::Accept => PeerMsg::Accept { slot, ballot, seq, deps, reqs },
-            Store::CommitNotice => PeerMsg::CommitNotice { slot, ballot, seq, deps, reqs },
-        };
-        self.receive(peer, message);
+    pub fn store(&mut self, what: Store, peer: usize, at: SlotAt, ballot: u64, contents: &Contents) {
+        self.hear(peer, Prepared::store(what, at, ballot, contents));
     }
 
-    pub fn accept_reply(&mut self, peer: usize, (row, col): SlotAt, ballot: u64) {
-        self.receive(peer, PeerMsg::AcceptReply { slot: SlotIdx(small(row), col), ballot });
+    pub fn accept_reply(&mut self, peer: usize, at: SlotAt, ballot: u64) {
+        self.hear(peer, Prepared::accept_reply(at, ballot));
     }
 
-    pub fn exp_prepare(&mut self, peer: usize, (row, col): SlotAt, new_ballot: u64) {
-        self.receive(peer, PeerMsg::ExpPrepare { slot: SlotIdx(small(row), col), new_ballot });
+    pub fn exp_prepare(&mut self, peer: usize, at: SlotAt, new_ballot: u64) {
+        self.hear(peer, Prepared::exp_prepare(at, new_ballot));
     }
 
     pub fn logged(&mut self, (row, col): SlotAt, status: plain::Status) {
