@@ -27,7 +27,7 @@
 //! # }
 //! ```
 //!
-//! A call needs up to 465 KB of stack, which a thread of Rust's has (2 MB) unless it is asked for with less.
+//! A call needs up to 401,408 bytes of stack, which a thread of Rust's has (2 MB) unless it is asked for with less.
 
 #![deny(missing_docs, unsafe_code)]
 
