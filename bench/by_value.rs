@@ -2,7 +2,7 @@
 use crate::clock::{Side, each, time};
 use crate::events::Case;
 use crate::tables::CONFIG;
-use crate::{image, trace};
+use crate::{encode, image};
 use std::hint::black_box;
 
 unsafe extern "C" {
@@ -22,7 +22,7 @@ pub struct ByValue {
 impl ByValue {
     /// With the event in the middle.
     pub fn new(case: &Case) -> Self {
-        let trace = trace::bytes(&case.events[case.events.len() / 2]);
+        let trace = encode::event(&case.events[case.events.len() / 2]);
         let times = if case.ran > 1 { TIMES_OF_MUCH } else { TIMES };
         ByValue { image: image::of(&CONFIG, &case.table), trace, times }
     }

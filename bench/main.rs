@@ -16,9 +16,8 @@ mod rust_side;
 mod shapes;
 mod table;
 mod tables;
-mod trace;
 
-// How calls and tables lie in bytes: as the comparison has it.
+// How calls, tables and events lie in bytes: as the comparison has it.
 #[allow(dead_code)]
 #[path = "../oracle/beside/bytes.rs"]
 mod bytes;
@@ -26,8 +25,13 @@ mod bytes;
 #[path = "../oracle/beside/cases.rs"]
 mod cases;
 #[allow(dead_code)]
+#[path = "../oracle/beside/encode.rs"]
+mod encode;
+#[allow(dead_code)]
 #[path = "../oracle/beside/image.rs"]
 mod image;
+#[path = "../oracle/beside/numbers.rs"]
+mod numbers;
 
 use clock::Row;
 use std::ffi::{CStr, c_char, c_int};

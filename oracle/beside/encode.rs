@@ -1,6 +1,6 @@
 //! The bytes of a trace, from the numbers in it.
 use crate::cases::numbers_of;
-use crate::list::event_numbers;
+use crate::numbers;
 use summerset::plain::{Config, Event};
 
 /// In groups of seven bits, the low group first, the high bit set on all but the last.
@@ -28,5 +28,5 @@ pub fn header(config: &Config) -> Vec<u8> {
 }
 
 pub fn event(event: &Event) -> Vec<u8> {
-    bytes(&event_numbers(event))
+    bytes(&numbers::event(event))
 }

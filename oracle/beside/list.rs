@@ -2,9 +2,10 @@
 use crate::bytes::{self, Answer, DONE, SET, WORD};
 use crate::cases::{Case, code_of, numbers_of};
 use crate::image::{self, Record};
+use crate::numbers;
 use crate::run::{Happened, Run};
 use summerset::drive;
-use summerset::plain::{Contents, Deps, Event, Kind, Output, Request, Slot, SlotAt, Table};
+use summerset::plain::{Contents, Deps, Event, Output, Request, Slot, SlotAt, Table};
 
 /// What each line holds, for its reader.
 pub const LEGEND: &str = "\
@@ -53,15 +54,7 @@ impl Line {
     }
 
     fn put_batch(&mut self, batch: &[Request]) {
-        self.put([batch.len() as u64]);
-        for r in batch {
-            self.put([r.client, r.id]);
-            match r.kind {
-                Kind::Other => self.put([0]),
-                Kind::Put { key, value } => self.put([1, key, value]),
-                Kind::Get { key } => self.put([2, key]),
-            }
-        }
+        self.put(numbers::batch(batch));
     }
 
     fn put_contents(&mut self, contents: &Contents) {
@@ -117,24 +110,9 @@ impl Line {
         }
     }
 
-    fn put_event(&mut self, event: &Event) {
-        match event {
-            Event::Store { what, peer, at, ballot, seq, deps, batch } => {
-                self.put([*what as u64 + 1, *peer, at.row, at.col, *ballot, *seq]);
-                self.put(deps.iter().copied());
-                self.put_batch(batch);
-            }
-            Event::AcceptReply { peer, at, ballot } => self.put([4, *peer, at.row, at.col, *ballot]),
-            Event::ExpPrepare { peer, at, ballot } => self.put([5, *peer, at.row, at.col, *ballot]),
-            Event::Logged { at, status } => self.put([6, at.row, at.col, *status]),
-            Event::Attempt { at } => self.put([7, at.row, at.col]),
-            Event::Lead { at } => self.put([8, at.row, at.col]),
-        }
-    }
-
     fn put_happened(&mut self, happened: &Happened) -> Result<(), String> {
         let Happened { event, did, run } = happened;
-        self.put_event(event);
+        self.put(numbers::event(event));
         self.put([code_of(event, did)?, did.output.len() as u64]);
         for record in &did.output {
             self.put_record(record)?;
@@ -176,13 +154,6 @@ impl Line {
     fn text(&self) -> String {
         self.0.iter().map(u64::to_string).collect::<Vec<_>>().join(" ")
     }
-}
-
-/// An event's own numbers, in a line as in a trace.
-pub fn event_numbers(event: &Event) -> Vec<u64> {
-    let mut line = Line::default();
-    line.put_event(event);
-    line.0
 }
 
 /// Of a call.

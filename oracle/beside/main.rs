@@ -20,6 +20,7 @@ mod freeze;
 mod handlers;
 mod image;
 mod list;
+mod numbers;
 mod player;
 mod printed;
 mod random;

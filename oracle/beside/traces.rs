@@ -1,6 +1,6 @@
 //! Traces to replay: runs of events as bytes, some of them spoiled, and bytes at random.
 use crate::aim::Aim;
-use crate::list::event_numbers;
+use crate::numbers::event as event_numbers;
 use crate::random::Random;
 use crate::run::{Plan, Run, slots};
 use crate::{attempts, cases, draw, encode, runs};
