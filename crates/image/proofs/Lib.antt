@@ -1,3 +1,4 @@
 pub mod TableLaws
 pub mod HeldLaws
 pub mod ReadLaws
+pub mod PutLaws
