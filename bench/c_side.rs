@@ -10,51 +10,35 @@ use std::hint::black_box;
 use std::time::Duration;
 
 // As include/njimbaros.h declares them.
-type Image = *mut u8;
-type Bytes = *const u8;
-type Room = *mut u8;
-
+#[rustfmt::skip] // a slice's pointer and length stay on one line
 unsafe extern "C" {
     fn nj_pre_accept(
-        i: Image,
-        il: u64,
-        p: u64,
-        r: u64,
-        c: u64,
-        b: u64,
-        with: Bytes,
-        wl: u64,
-        out: Room,
-        ol: u64,
+        image: *mut u8, image_length: u64, peer: u64, row: u64, column: u64, ballot: u64,
+        contents: *const u8, contents_length: u64, out: *mut u8, out_length: u64,
     ) -> u64;
-    fn nj_accept(i: Image, il: u64, p: u64, r: u64, c: u64, b: u64, with: Bytes, wl: u64, out: Room, ol: u64) -> u64;
+    fn nj_accept(
+        image: *mut u8, image_length: u64, peer: u64, row: u64, column: u64, ballot: u64,
+        contents: *const u8, contents_length: u64, out: *mut u8, out_length: u64,
+    ) -> u64;
     fn nj_commit_notice(
-        i: Image,
-        il: u64,
-        p: u64,
-        r: u64,
-        c: u64,
-        b: u64,
-        with: Bytes,
-        wl: u64,
-        out: Room,
-        ol: u64,
+        image: *mut u8, image_length: u64, peer: u64, row: u64, column: u64, ballot: u64,
+        contents: *const u8, contents_length: u64, out: *mut u8, out_length: u64,
     ) -> u64;
-    fn nj_accept_reply(i: Image, il: u64, p: u64, r: u64, c: u64, b: u64, out: Room, ol: u64) -> u64;
-    fn nj_exp_prepare(i: Image, il: u64, p: u64, r: u64, c: u64, b: u64, out: Room, ol: u64) -> u64;
-    fn nj_attempt(i: Image, il: u64, r: u64, c: u64, order: Room, ol: u64, ran: Room, rl: u64) -> u64;
+    fn nj_accept_reply(
+        image: *mut u8, image_length: u64, peer: u64, row: u64, column: u64, ballot: u64,
+        out: *mut u8, out_length: u64,
+    ) -> u64;
+    fn nj_exp_prepare(
+        image: *mut u8, image_length: u64, peer: u64, row: u64, column: u64, ballot: u64,
+        out: *mut u8, out_length: u64,
+    ) -> u64;
+    fn nj_attempt(
+        image: *mut u8, image_length: u64, row: u64, column: u64, order: *mut u8, order_length: u64,
+        ran: *mut u8, ran_length: u64,
+    ) -> u64;
     fn nj_logged(
-        i: Image,
-        il: u64,
-        r: u64,
-        c: u64,
-        status: u64,
-        order: Room,
-        ol: u64,
-        ran: Room,
-        rl: u64,
-        out: Room,
-        tl: u64,
+        image: *mut u8, image_length: u64, row: u64, column: u64, status: u64,
+        order: *mut u8, order_length: u64, ran: *mut u8, ran_length: u64, out: *mut u8, out_length: u64,
     ) -> u64;
 }
 
@@ -87,28 +71,30 @@ impl Lent {
             Function::Accept => nj_accept,
             _ => nj_commit_notice,
         };
-        let ([p, r, c, b], with) = ([0, 1, 2, 3].map(|i| call.numbers[i]), &call.slices[0]);
+        let ([peer, row, column, ballot], with) = ([0, 1, 2, 3].map(|i| call.numbers[i]), &call.slices[0]);
         let (image, out) = (self.image.as_mut_ptr(), self.out.as_mut_ptr());
-        unsafe { function(image, IMAGE as u64, p, r, c, b, with.as_ptr(), with.len() as u64, out, OUT as u64) }
+        let length = with.len() as u64;
+        unsafe { function(image, IMAGE as u64, peer, row, column, ballot, with.as_ptr(), length, out, OUT as u64) }
     }
 
     fn plain(&mut self, call: &Request) -> u64 {
         let function = if call.function == Function::AcceptReply { nj_accept_reply } else { nj_exp_prepare };
-        let [p, r, c, b] = [0, 1, 2, 3].map(|i| call.numbers[i]);
-        unsafe { function(self.image.as_mut_ptr(), IMAGE as u64, p, r, c, b, self.out.as_mut_ptr(), OUT as u64) }
+        let [peer, row, column, ballot] = [0, 1, 2, 3].map(|i| call.numbers[i]);
+        let (image, out) = (self.image.as_mut_ptr(), self.out.as_mut_ptr());
+        unsafe { function(image, IMAGE as u64, peer, row, column, ballot, out, OUT as u64) }
     }
 
     fn attempt(&mut self, call: &Request) -> u64 {
         let (image, order, ran) = (self.image.as_mut_ptr(), self.order.as_mut_ptr(), self.ran.as_mut_ptr());
-        let [r, c] = [0, 1].map(|i| call.numbers[i]);
-        unsafe { nj_attempt(image, IMAGE as u64, r, c, order, ORDER as u64, ran, WORD as u64) }
+        let [row, column] = [0, 1].map(|i| call.numbers[i]);
+        unsafe { nj_attempt(image, IMAGE as u64, row, column, order, ORDER as u64, ran, WORD as u64) }
     }
 
     fn logged(&mut self, call: &Request) -> u64 {
         let (image, order, ran) = (self.image.as_mut_ptr(), self.order.as_mut_ptr(), self.ran.as_mut_ptr());
-        let ([r, c, status], out) = ([0, 1, 2].map(|i| call.numbers[i]), self.out.as_mut_ptr());
-        let [il, ol, rl, tl] = [IMAGE, ORDER, WORD, OUT].map(|length| length as u64);
-        unsafe { nj_logged(image, il, r, c, status, order, ol, ran, rl, out, tl) }
+        let ([row, column, status], out) = ([0, 1, 2].map(|i| call.numbers[i]), self.out.as_mut_ptr());
+        let [images, orders, rans, outs] = [IMAGE, ORDER, WORD, OUT].map(|length| length as u64);
+        unsafe { nj_logged(image, images, row, column, status, order, orders, ran, rans, out, outs) }
     }
 
     fn make(&mut self, call: &Request) -> u64 {

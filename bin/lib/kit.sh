@@ -1,4 +1,4 @@
-# To be sourced: the kit, C for x86-64, the archive of the C functions, and programs for x86-64 on whatever machine this is.
+# To be sourced: the kit, the archive of the C functions, and programs for x86-64 on whatever machine this is.
 # Wants root, the project's folder, and me, the name that messages begin with.
 # shellcheck shell=sh disable=SC2034,SC2154
 

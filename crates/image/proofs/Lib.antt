@@ -1,4 +1,3 @@
 pub mod TableLaws
 pub mod HeldLaws
 pub mod ReadLaws
-pub mod PutLaws

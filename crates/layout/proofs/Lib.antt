@@ -2,4 +2,3 @@ pub mod Laying
 pub mod NumberLaws
 pub mod EachLaws
 pub mod BatchLaws
-pub mod PlaceLaws
