@@ -5,6 +5,7 @@ use crate::clock::{Side, each, time};
 use crate::events::Case;
 use crate::image;
 use crate::once::between_marks;
+use crate::stack::depth;
 use crate::tables::CONFIG;
 use std::hint::black_box;
 use std::time::Duration;
@@ -126,6 +127,17 @@ impl CSide {
             Did { code, out: lent.out.to_vec(), ran: word(&lent.ran, 0) as usize }
         };
         (self.calls.iter().map(one).collect(), lent.image.clone())
+    }
+
+    /// The most stack that a call of a sample takes.
+    pub fn depth(&mut self) -> usize {
+        let lent = &mut self.lent;
+        let one = |call: &Request| {
+            depth(&mut || {
+                black_box(lent.make(call));
+            })
+        };
+        self.calls.iter().map(one).max().unwrap_or_default()
     }
 
     /// The first call alone, between the marks.

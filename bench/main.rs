@@ -1,6 +1,7 @@
 //! The unchanged Rust beside the C functions and beside the entries by value, on the same events: docs/BENCH.md.
 //!   bench time ROUNDS     times all and prints the table
 //!   bench names           the events, a line each
+//!   bench stack           how many bytes of stack each event takes, a line each
 //!   bench once SIDE EVENT one event by the C function (c) or by the Rust (rust), for its instructions to be counted
 #![no_main]
 
@@ -14,6 +15,7 @@ mod header;
 mod once;
 mod rust_side;
 mod shapes;
+mod stack;
 mod table;
 mod tables;
 
@@ -36,7 +38,7 @@ mod numbers;
 use clock::Row;
 use std::ffi::{CStr, c_char, c_int};
 
-const USAGE: &str = "usage: bench time ROUNDS | names | once c EVENT | once rust EVENT";
+const USAGE: &str = "usage: bench time ROUNDS | names | stack | once c EVENT | once rust EVENT";
 
 fn time(rounds: usize) {
     let timed = |rows: Vec<Row>| rows.into_iter().map(|row| row.timed(rounds)).collect::<Vec<_>>();
@@ -56,6 +58,7 @@ fn run(words: &[&str]) -> Option<()> {
     match words {
         ["time", rounds] => time(rounds.parse().ok().filter(|rounds| *rounds > 0)?),
         ["names"] => once::names(),
+        ["stack"] => stack::all(),
         ["once", "c", event] => once::c(event)?,
         ["once", "rust", event] => once::rust(event)?,
         _ => return None,

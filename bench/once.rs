@@ -23,7 +23,7 @@ pub fn between_marks(work: impl FnOnce()) {
     bench_ends();
 }
 
-fn all() -> impl Iterator<Item = Named> {
+pub fn all() -> impl Iterator<Item = Named> {
     events::messages().into_iter().chain(events::attempts())
 }
 

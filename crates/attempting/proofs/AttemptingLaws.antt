@@ -17,7 +17,7 @@ use Rattle.table.specs.declared.place.Place.{Place}
 use Rattle.table.specs.declared.table.Table.{Table}
 use Rattle.slot_bytes.specs.Slot.{SlotWhole}
 use Rattle.image.specs.Tables.{tableAt, imageKnown, TableWhole}
-use Rattle.slot_bytes.proofs.ReadLaws.{Bytes}
+use Rattle.layout.specs.Numbers.{Bytes}
 use Rattle.attempts.specs.Refusal.{attemptRefusal}
 use Rattle.attempts.specs.Attempt.{ranWith, written, tableAfter, toRun, answerOf, attemptOn, orderOn, attemptOr, orderOr, attemptOf, attemptOrder}
 use Rattle.attempts.proofs.RanLaws.{ran-length, ran-marked, ran-others}

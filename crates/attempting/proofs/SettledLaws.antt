@@ -10,7 +10,7 @@ use Rattle.base.specs.declared.answer.Answer.{Answer}
 use Rattle.base.specs.declared.answer.Answer.the-variants.{Refused}
 use Rattle.table.specs.declared.table.Table.{Table}
 use Rattle.image.specs.Tables.{imageWidth, tableAt, imageKnown, TableWhole}
-use Rattle.slot_bytes.proofs.ReadLaws.{Bytes}
+use Rattle.layout.specs.Numbers.{Bytes}
 use Rattle.image.proofs.ReadLaws.{table-read}
 use Rattle.calls.specs.Calls.{imageWith}
 use Rattle.calls.proofs.WrittenLaws.{taken-number, bytes-stay, laid-length, image-length, image-reads}

@@ -38,13 +38,16 @@ unfoldable pub tableFits : Table → Bool
 tableFits t =
     configFits (t .config) && (rowsFit (t .config .n) (t .lens) (t .bars) && (slotsFit t && keysFit (t .config .n) (t .keys)))
 
--- the table, then the place's row and column
-abbrev pub placeTests : Table → Place → List (Bool × ℕ)
-placeTests t at =
-    (tableFits t, outsideBounds)
-    ∷ (ltb (at .row) (t .config .n), noReplica)
+-- whether the table is within the bounds, then the place's row and column
+abbrev pub placeTestsIn : Bool → ℕ → Place → List (Bool × ℕ)
+placeTestsIn within n at =
+    (within, outsideBounds)
+    ∷ (ltb (at .row) n, noReplica)
     ∷ (ltb (at .col) 32, noColumn)
     ∷ []
+
+abbrev pub placeTests : Table → Place → List (Bool × ℕ)
+placeTests t at = placeTestsIn (tableFits t) (t .config .n) at
 
 unfoldable pub placeRefusal : Table → Place → ℕ
 placeRefusal t at = firstRefusal (placeTests t at)

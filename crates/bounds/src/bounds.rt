@@ -1,6 +1,7 @@
 // Refusal 1: whether a table is within the bounds; and 2 and 3 of a place in it.
 ghost use mathlib.Core.Path.{_≡_};
-ghost use Rattle.bounds.specs.Bounds.{rowFits, rowsFit, slotsFit, tableFits, placeRefusal};
+ghost use Rattle.base.specs.Refusals.{firstRefusal};
+ghost use Rattle.bounds.specs.Bounds.{rowFits, rowsFit, slotsFit, tableFits, placeTestsIn, placeRefusal};
 use base::refusals;
 use table::place::Place;
 use table::table::Table;
@@ -29,11 +30,18 @@ pub fn fits(table: Table) -> bool
 pub fn refusal(table: Table, at: Place) -> u64
     ensures { λ r. ⌜ r ≡ placeRefusal table at ⌝ }
 {
-    if !fits(table) {
+    let config = table.config;
+    of_place(fits(table), config.n, at)
+}
+
+// The same, of what is known of a table: whether it is within the bounds, and how many rows it has.
+pub fn of_place(within: bool, n: usize, at: Place) -> u64
+    ensures { λ r. ⌜ r ≡ firstRefusal (placeTestsIn within n at) ⌝ }
+{
+    if !within {
         return refusals::OUTSIDE_BOUNDS;
     }
-    let config = table.config;
-    if config.n <= at.row {
+    if n <= at.row {
         return refusals::NO_REPLICA;
     }
     if 32 <= at.col {
@@ -61,7 +69,7 @@ fn slots_fit(table: Table) -> bool
 }
 
 // Every row's length and bar.
-fn rows_fit(n: usize, lens: [usize; 7], bars: [usize; 7]) -> bool
+pub fn rows_fit(n: usize, lens: [usize; 7], bars: [usize; 7]) -> bool
     ensures { λ r. ⌜ r ≡ rowsFit n lens bars ⌝ }
 {
     let mut row: usize = 0;

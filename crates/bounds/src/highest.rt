@@ -23,7 +23,7 @@ pub fn highest(table: Table, set: DepSet) -> u32
 }
 
 // Whether a row of this length holds the slot that a set's number names.
-fn is_held(number: usize, len: usize) -> bool
+pub fn is_held(number: usize, len: usize) -> bool
     ensures { λ r. ⌜ r ≡ isHeld number len ⌝ }
 {
     if number < 1 {
@@ -35,7 +35,7 @@ fn is_held(number: usize, len: usize) -> bool
     number <= len
 }
 
-fn greater(a: u32, b: u32) -> u32
+pub fn greater(a: u32, b: u32) -> u32
     ensures { λ r. ⌜ r ≡ max a b ⌝ }
 {
     if a < b { b } else { a }

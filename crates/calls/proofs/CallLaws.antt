@@ -23,7 +23,7 @@ use Rattle.handlers.specs.Lead.{leadSlot}
 use Rattle.handlers.proofs.CaseLaws.{WhenRefused}
 use Rattle.handlers.proofs.RefusedLaws.{MessageRefused, outside, no-replica, no-column, ContentsRefused, bad-dependency, bad-batch, over-limit, ProposalRefused, by-message, by-contents, stored-over, LeadRefused, no-row, no-slot, reply-exactly, prepare-exactly, proposed-exactly, lead-exactly}
 use Rattle.image.specs.Tables.{tableAt, imageKnown, TableWhole}
-use Rattle.slot_bytes.proofs.ReadLaws.{Bytes}
+use Rattle.layout.specs.Numbers.{Bytes}
 use Rattle.image.proofs.ReadLaws.{table-read}
 use Rattle.calls.proofs.WrittenLaws.{bytes-stay, laid-length, long-image, image-length, image-reads}
 use Rattle.calls.proofs.WholeLaws.{ProposalWhole, Whole, proposed-whole, reply-whole, prepare-whole, lead-whole}

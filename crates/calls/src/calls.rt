@@ -1,27 +1,32 @@
 // A handler called on an image: the one shape that all their C functions have.
 ghost use mathlib.Core.Path.{_≡_};
+ghost use mathlib.Core.Bool.{true};
 ghost use Prim.Native.Nat.{_≤_};
 ghost use lib.ListN.{length};
-ghost use Rattle.outcomes.specs.Outcome.{outcomeOf};
 ghost use Rattle.base.specs.Answer.{isRefused};
-ghost use Rattle.image.specs.Tables.{imageWidth};
+ghost use Rattle.changes.specs.Change.{Inside, Makes, Seven, changed};
+ghost use Rattle.image.specs.Tables.{imageWidth, imageKnown, tableAt};
 ghost use Rattle.output_bytes.specs.Output.{outputWidth};
 ghost use Rattle.calls.specs.Calls.{settled, onImage, handledBy};
 use base::answer::Answer;
 use base::refusals;
-use handlers::lead;
-use handlers::prepare;
-use handlers::replies;
+use changes::change::Change;
+use changes::view::View;
+use handlers::lead::led;
+use handlers::prepare::answered;
+use handlers::replies::reply;
 use image::tables;
 use image::tables::is_known;
 use image::tables::put_table;
-use image::tables::table_at;
+use in_place::change::apply_at;
+use in_place::view::look_at;
 use outcomes::message::Proposal;
 use outcomes::outcome::Outcome;
 use output_bytes::output;
 use output_bytes::output::put_output;
-use proposing::proposals;
-use table::table::Table;
+use proposing::proposals::Phase;
+use proposing::proposals::take;
+use table::place::Place;
 
 // What is answered where a slice is short, or the image has another length.
 pub const SHORT: u64 = 0;
@@ -59,23 +64,53 @@ pub fn call(
     if !is_known(image) {
         return refusals::OUTSIDE_BOUNDS;
     }
-    let outcome = handle(handler, table_at(image), proposal);
-    settle(outcome, image, out)
+    let message = proposal.message;
+    let at = message.at;
+    let batch = proposal.batch;
+    let view = look_at(image, at, batch);
+    let change = decide(handler, view, proposal);
+    settle_at(change, at, image, out)
 }
 
-fn handle(handler: Handler, table: Table, proposal: Proposal) -> Outcome
-    ensures { λ r. ⌜ r ≡ outcomeOf table (handledBy handler proposal table) ⌝ }
+// What the handler makes of every table that looks so.
+fn decide(handler: Handler, view: View, proposal: Proposal) -> Change
+    requires { ⌜ Seven view ⌝ }
+    ensures { λ r. ⌜ Makes (handledBy handler proposal) view (proposal .message .at) (proposal .batch) r ⌝ }
 {
     let message = proposal.message;
     let at = message.at;
     match handler {
-        Handler::PreAccept => proposals::pre_accept(table, proposal),
-        Handler::Accept => proposals::accept(table, proposal),
-        Handler::CommitNotice => proposals::commit_notice(table, proposal),
-        Handler::AcceptReply => replies::accept_reply(table, message),
-        Handler::ExpPrepare => prepare::exp_prepare(table, message),
-        Handler::Lead => lead::lead(table, at),
+        Handler::PreAccept => take(Phase::PreAccept, view, proposal),
+        Handler::Accept => take(Phase::Accept, view, proposal),
+        Handler::CommitNotice => take(Phase::CommitNotice, view, proposal),
+        Handler::AcceptReply => reply(view, message),
+        Handler::ExpPrepare => answered(view, message),
+        Handler::Lead => led(view, at),
     }
+}
+
+// The answer's number, with the change and the output written where they stand: a refusal writes nothing.
+pub fn settle_at(change: Change, at: Place, image: &mut [u8], out: &mut [u8]) -> u64
+    requires { ⌜ length (now image) ≡ imageWidth ⌝ }
+    requires { ⌜ imageKnown (now image) ≡ true ⌝ }
+    requires { ⌜ outputWidth ≤ length (now out) ⌝ }
+    requires { ⌜ Inside (change .extent) at ⌝ }
+    ensures result { λ r. ⌜ r ≡ settled (changed (tableAt (now (image .entry))) at change) (now (image .entry)) (now (out .entry)) .code ⌝ }
+    ensures table { λ r. ⌜ now (image .exit) ≡ settled (changed (tableAt (now (image .entry))) at change) (now (image .entry)) (now (out .entry)) .image ⌝ }
+    ensures bytes { λ r. ⌜ now (out .exit) ≡ settled (changed (tableAt (now (image .entry))) at change) (now (image .entry)) (now (out .entry)) .out ⌝ }
+{
+    let answer = change.answer;
+    let number = answer.number();
+    let refused = is_refused(answer);
+    if refused {
+        return number;
+    }
+    let slot = change.slot;
+    let extent = change.extent;
+    let output = change.output;
+    apply_at(image, at, slot, extent);
+    put_output(out, output);
+    number
 }
 
 // The answer's number, with the table and the output written: a refusal writes nothing.

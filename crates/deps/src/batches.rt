@@ -25,7 +25,7 @@ pub struct Batch {
 
 impl Kind {
     // The key of a put or get is at most 255.
-    fn fits(self) -> bool
+    pub fn fits(self) -> bool
         ensures { λ r. ⌜ r ≡ kindFits self ⌝ }
     {
         match self {

@@ -1,4 +1,5 @@
 pub mod TestLaws
+pub mod DecidedLaws
 pub mod CaseLaws
 pub mod RefusedLaws
 pub mod StoredLaws

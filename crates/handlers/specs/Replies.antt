@@ -2,6 +2,7 @@
 use mathlib.Core.List.{[], _∷_}
 use mathlib.Core.Bool.{Bool, cond, not, _&&_}
 use lib.Dec.{leb, eqb}
+use Prim.Native.Nat.{ℕ}
 use Rattle.base.specs.Marks.{marked, countOf}
 use Rattle.base.specs.Status.{rankOf}
 use Rattle.base.specs.declared.status.Status.the-variants.{Accepting}
@@ -14,6 +15,9 @@ use Rattle.outcomes.specs.Output.{logOf, noticeOf}
 use Rattle.outcomes.specs.Outcome.{Handled, ignored, done, unlessRefused}
 use Rattle.outcomes.specs.Refusal.{messageRefusal}
 use Rattle.outcomes.specs.declared.message.Message.{Message}
+use Rattle.changes.specs.Change.{doing}
+use Rattle.changes.specs.declared.change.Change.{Change}
+use Rattle.changes.specs.declared.change.Extent.the-variants as Extents
 
 -- Accepting, of this ballot, led, and the peer not yet marked
 unfoldable pub heeds : Slot → Message → Bool
@@ -25,6 +29,13 @@ onMark t at s =
     cond (leb (t .config .simple) (countOf (s .marks)))
     (done (putAt t at (committed s)) (logOf at (committed s) ∷ noticeOf at (committed s) ∷ []))
     (done (putAt t at s) [])
+
+-- the change that says so of the slot alone
+abbrev pub marking : ℕ → Place → Slot → Change
+marking simple at s =
+    cond (leb simple (countOf (s .marks)))
+    (doing Extents.Slot (committed s) (logOf at (committed s) ∷ noticeOf at (committed s) ∷ []))
+    (doing Extents.Slot s [])
 
 -- ignored where the slot is absent or does not heed it; else a mark
 abbrev pub onHeld : Table → Message → Handled

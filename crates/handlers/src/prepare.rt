@@ -1,7 +1,13 @@
 // ExpPrepare.
 ghost use mathlib.Core.Path.{_≡_};
 ghost use Rattle.outcomes.specs.Outcome.{outcomeOf};
+ghost use Rattle.changes.specs.Change.{MakesForAny, Seven};
 ghost use Rattle.handlers.specs.Prepare.{expPrepare};
+use base::answer::Answer;
+use changes::change::Change;
+use changes::change::Extent;
+use changes::view::View;
+use changes::view::look_plain;
 use outcomes::message::Message;
 use outcomes::outcome::Outcome;
 use outcomes::output::Output;
@@ -13,20 +19,35 @@ use table::table::Table;
 pub fn exp_prepare(table: Table, message: Message) -> Outcome
     ensures { λ r. ⌜ r ≡ outcomeOf table (expPrepare table message) ⌝ }
 {
-    let number = refusal::of_message(table, message);
-    if 0 < number {
-        return Outcome::refused(table, number);
-    }
     let at = message.at;
-    let filled = table.fill(at);
-    let slot = filled.slot(at);
+    let view = look_plain(table, at);
+    let change = answered(view, message);
+    change.apply(table, at)
+}
+
+// The decision, whatever the batch that the view was made for.
+pub fn answered(view: View, message: Message) -> Change
+    requires { ⌜ Seven view ⌝ }
+    ensures { λ r. ⌜ MakesForAny (λ t. expPrepare t message) view (message .at) r ⌝ }
+{
+    let config = view.config;
+    let number = refusal::of_message(view.within, config.n, message);
+    if 0 < number {
+        return Change::refused(number);
+    }
+    let slot = view.slot;
     if message.ballot <= slot.ballot {
-        return Outcome::ignored(filled);
+        return Change::ignored(Extent::Nulls);
     }
     let what = What::ExpPrepareReply {
         to: message.peer,
         asked: message.ballot,
     };
-    let reply = Record::of(what, at, slot);
-    Outcome::done(filled.put(at, slot.hear(message.peer)), Output::one(reply))
+    let reply = Record::of(what, message.at, slot);
+    Change {
+        slot: slot.hear(message.peer),
+        output: Output::one(reply),
+        answer: Answer::Done,
+        extent: Extent::Slot,
+    }
 }

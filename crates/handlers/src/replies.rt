@@ -2,9 +2,16 @@
 ghost use mathlib.Core.Path.{_≡_};
 ghost use Prim.Native.Nat.{_<_};
 ghost use Rattle.outcomes.specs.Outcome.{outcomeOf};
-ghost use Rattle.handlers.specs.Replies.{acceptReply, heeds, onMark};
+ghost use Rattle.changes.specs.Change.{MakesForAny, Seven};
+ghost use Rattle.handlers.specs.Replies.{acceptReply, heeds, marking};
+use base::answer::Answer;
+use base::config::Config;
 use base::marks;
 use base::status::Status;
+use changes::change::Change;
+use changes::change::Extent;
+use changes::view::View;
+use changes::view::look_plain;
 use outcomes::message::Message;
 use outcomes::outcome::Outcome;
 use outcomes::output::Output;
@@ -18,19 +25,30 @@ use table::table::Table;
 pub fn accept_reply(table: Table, message: Message) -> Outcome
     ensures { λ r. ⌜ r ≡ outcomeOf table (acceptReply table message) ⌝ }
 {
-    let number = refusal::of_message(table, message);
-    if 0 < number {
-        return Outcome::refused(table, number);
-    }
     let at = message.at;
-    if !table.holds(at) {
-        return Outcome::ignored(table);
+    let view = look_plain(table, at);
+    let change = reply(view, message);
+    change.apply(table, at)
+}
+
+// The decision, whatever the batch that the view was made for.
+pub fn reply(view: View, message: Message) -> Change
+    requires { ⌜ Seven view ⌝ }
+    ensures { λ r. ⌜ MakesForAny (λ t. acceptReply t message) view (message .at) r ⌝ }
+{
+    let config = view.config;
+    let number = refusal::of_message(view.within, config.n, message);
+    if 0 < number {
+        return Change::refused(number);
     }
-    let slot = table.slot(at);
+    if !view.held {
+        return Change::ignored(Extent::Nothing);
+    }
+    let slot = view.slot;
     if !heeds(slot, message) {
-        return Outcome::ignored(table);
+        return Change::ignored(Extent::Nothing);
     }
-    marked(table, at, slot.mark(message.peer))
+    marked(config, message.at, slot.mark(message.peer))
 }
 
 // Accepting, of the message's ballot, led, and the peer not marked yet.
@@ -53,18 +71,25 @@ fn heeds(slot: Slot, message: Message) -> bool
 }
 
 // The slot with its new mark; committed where that makes a simple quorum.
-fn marked(table: Table, at: Place, slot: Slot) -> Outcome
-    requires { ⌜ at .row < 7 ⌝ }
-    requires { ⌜ at .col < 32 ⌝ }
-    ensures { λ r. ⌜ r ≡ outcomeOf table (onMark table at slot) ⌝ }
+fn marked(config: Config, at: Place, slot: Slot) -> Change
+    ensures { λ r. ⌜ r ≡ marking (config .simple) at slot ⌝ }
 {
-    let config = table.config;
     let marks = slot.marks;
     if marks::count(marks) < config.simple {
-        return Outcome::done(table.put(at, slot), Output::NONE);
+        return Change {
+            slot: slot,
+            output: Output::NONE,
+            answer: Answer::Done,
+            extent: Extent::Slot,
+        };
     }
     let committed = slot.commit();
     let log = Record::of(What::Log, at, committed);
     let notice = Record::of(What::CommitNotice, at, committed);
-    Outcome::done(table.put(at, committed), Output::two(log, notice))
+    Change {
+        slot: committed,
+        output: Output::two(log, notice),
+        answer: Answer::Done,
+        extent: Extent::Slot,
+    }
 }

@@ -1,3 +1,5 @@
 pub mod TableLaws
 pub mod HeldLaws
 pub mod ReadLaws
+pub mod PutLaws
+pub mod AgainLaws

@@ -4,12 +4,12 @@ use Prim.Native.Nat.{ℕ, _*_}
 use native.Mathlib.Omega.{arith}
 use lib.ListN.{drop, replicate}
 use Rattle.slots.specs.Slot.{blankSlot}
-use Rattle.layout.specs.Numbers.{byteOf}
+use Rattle.layout.specs.Numbers.{byteOf, Bytes}
 use Rattle.octets.specs.Sets.{rowsAt}
 use Rattle.layout.proofs.EachLaws.{each-length, each-is}
 use Rattle.octets.proofs.SetLaws.{rows-length}
 use Rattle.slot_bytes.specs.Slot.{slotAt}
-use Rattle.slot_bytes.proofs.ReadLaws.{Bytes, bytes-past, slot-read}
+use Rattle.slot_bytes.proofs.ReadLaws.{bytes-past, slot-read}
 use Rattle.image.specs.Tables.{keysAt, slotsAt, tableAt, RowsWhole, KeysWhole, TableWhole}
 
 rows-read : (l : List ℕ) → Bytes l → RowsWhole (rowsAt l)

@@ -1,3 +1,3 @@
 // The table as bytes of a fixed layout: docs/IMAGE.md.
-mod rows; // rows.rt: configuration, row lengths and bars, key columns
+pub mod rows; // rows.rt: configuration, row lengths and bars, key columns
 pub mod tables; // tables.rt: the whole table

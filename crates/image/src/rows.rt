@@ -14,7 +14,7 @@ use layout::numbers::size;
 use octets::sets::put_set;
 use octets::sets::set_at;
 
-pub(crate) fn config_at(s: &[u8]) -> Config
+pub fn config_at(s: &[u8]) -> Config
     requires { ⌜ 4 ≤ length (now s) ⌝ }
     ensures { λ r. ⌜ r ≡ configAt (now (s .entry)) ⌝ }
 {
@@ -26,7 +26,7 @@ pub(crate) fn config_at(s: &[u8]) -> Config
     }
 }
 
-pub(crate) fn put_config(out: &mut [u8], config: Config)
+pub fn put_config(out: &mut [u8], config: Config)
     requires { ⌜ 4 ≤ length (now out) ⌝ }
     ensures { λ _. ⌜ now (out .exit) ≡ lay (now (out .entry)) 0 (configBytes config) ⌝ }
 {
@@ -37,7 +37,7 @@ pub(crate) fn put_config(out: &mut [u8], config: Config)
 }
 
 // The lengths or the bars of the rows.
-pub(crate) fn rows_at(s: &[u8], at: usize) -> [usize; 7]
+pub fn rows_at(s: &[u8], at: usize) -> [usize; 7]
     requires { ⌜ at + 7 ≤ length (now s) ⌝ }
     ensures { λ r. ⌜ r ≡ rowsAt (drop at (now (s .entry))) ⌝ }
 {
@@ -51,7 +51,7 @@ pub(crate) fn rows_at(s: &[u8], at: usize) -> [usize; 7]
     rows
 }
 
-pub(crate) fn put_rows(out: &mut [u8], at: usize, rows: [usize; 7])
+pub fn put_rows(out: &mut [u8], at: usize, rows: [usize; 7])
     requires { ⌜ at + 7 ≤ length (now out) ⌝ }
     ensures { λ _. ⌜ now (out .exit) ≡ lay (now (out .entry)) at (rowsBytes rows) ⌝ }
 {
@@ -63,7 +63,7 @@ pub(crate) fn put_rows(out: &mut [u8], at: usize, rows: [usize; 7])
     }
 }
 
-pub(crate) fn keys_at(s: &[u8], at: usize) -> Keys
+pub fn keys_at(s: &[u8], at: usize) -> Keys
     requires { ⌜ at + 1792 ≤ length (now s) ⌝ }
     ensures { λ r. ⌜ r ≡ keysAt (drop at (now (s .entry))) ⌝ }
 {
@@ -78,7 +78,7 @@ pub(crate) fn keys_at(s: &[u8], at: usize) -> Keys
     Keys::of(cols)
 }
 
-pub(crate) fn put_keys(out: &mut [u8], at: usize, keys: Keys)
+pub fn put_keys(out: &mut [u8], at: usize, keys: Keys)
     requires { ⌜ at + 1792 ≤ length (now out) ⌝ }
     ensures { λ _. ⌜ now (out .exit) ≡ lay (now (out .entry)) at (keysBytes keys) ⌝ }
 {

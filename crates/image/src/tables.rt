@@ -1,5 +1,6 @@
 // The table, 33,618 bytes.
 ghost use mathlib.Core.Path.{_≡_};
+ghost use mathlib.Core.Bool.{true};
 ghost use Prim.Native.Nat.{_+_, _≤_};
 ghost use lib.ListN.{length, drop};
 ghost use Rattle.layout.specs.Numbers.{lay};
@@ -10,6 +11,7 @@ use super::rows::put_config;
 use super::rows::put_keys;
 use super::rows::put_rows;
 use super::rows::rows_at;
+use slot_bytes::slot::clear_slot;
 use slot_bytes::slot::put_slot;
 use slot_bytes::slot::slot_at;
 use slot_bytes::slot::slot_known;
@@ -92,4 +94,17 @@ pub fn put_table(image: &mut [u8], table: Table)
     put_rows(image, 11, bars);
     put_keys(image, 18, keys);
     put_slots(image, 1810, slots);
+}
+
+// The table written again as it is read, slot by slot: where a request has no key or value those bytes become 0.
+pub fn clear(image: &mut [u8])
+    requires { ⌜ length (now image) ≡ imageWidth ⌝ }
+    requires { ⌜ imageKnown (now image) ≡ true ⌝ }
+    ensures { λ _. ⌜ now (image .exit) ≡ tableBytes (tableAt (now (image .entry))) ⌝ }
+{
+    let mut i: usize = 0;
+    while i < 224 {
+        clear_slot(image, 1810 + 142 * i);
+        i += 1;
+    }
 }

@@ -1,10 +1,11 @@
 -- A request, 27 bytes: client 8, id 8, kind 1, key 2, value 8. A batch, 109: count 1, four requests.
 use mathlib.Core.Path.{_≡_}
 use mathlib.Core.List.{List, [], _∷_, _++_}
-use mathlib.Core.Bool.{cond}
-use Prim.Native.Nat.{ℕ, _<_, _≤_, _^_, min}
+use mathlib.Core.Bool.{Bool, cond, _&&_, _||_}
+use Prim.Native.Nat.{ℕ, _+_, _*_, _<_, _≤_, _^_, min}
 use lib.Dec.{eqb}
 use lib.ListN.{length, getD, drop}
+use Rattle.base.specs.Below.{allBelow}
 use Rattle.deps.specs.Batches.{request}
 use Rattle.deps.specs.declared.batches.Kind.{Kind}
 use Rattle.deps.specs.declared.batches.Kind.the-variants.{Other, Put, Get}
@@ -54,6 +55,19 @@ requestIn b i = requestBytes (request b i)
 -- a count above 255 as 255
 unfoldable pub batchBytes : Batch → List ℕ
 batchBytes b = (min (b .count) 255 ∷ []) ++ eachBytes (requestIn b) 4
+
+-- where the kind has no key or value, those bytes are 0
+abbrev pub kindPlain : ℕ → ℕ → ℕ → Bool
+kindPlain b key value = eqb b 1 || (eqb value 0 && (eqb b 2 || eqb key 0))
+
+unfoldable pub requestPlain : List ℕ → Bool
+requestPlain l = kindPlain (getD l 16 0) (shortOf (drop 17 l)) (wordOf (drop 19 l))
+
+abbrev pub plainAt : List ℕ → ℕ → Bool
+plainAt l i = requestPlain (drop (1 + 27 * i) l)
+
+unfoldable pub batchPlain : List ℕ → Bool
+batchPlain l = allBelow 4 (plainAt l)
 
 -- what its bytes hold whole: words of 64 bits, keys of 16, a count of 8, four requests
 pub record RequestFits (q : Request) : Type 0 where

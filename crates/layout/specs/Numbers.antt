@@ -1,6 +1,6 @@
 -- Numbers in bytes, low byte first.
 use mathlib.Core.List.{List, [], _∷_}
-use Prim.Native.Nat.{ℕ, zero, suc, _+_, _*_, _/_, _%_, min}
+use Prim.Native.Nat.{ℕ, zero, suc, _+_, _*_, _/_, _%_, _<_, min}
 use lib.ListN.{getD}
 use lib.Seq.{sets}
 
@@ -38,3 +38,7 @@ byteFor v = min v 255 ∷ []
 -- the bytes of old, with new over them from a place on
 unfoldable pub lay : List ℕ → ℕ → List ℕ → List ℕ
 lay old at new = sets old at new
+
+-- each is a byte
+abbrev pub Bytes : List ℕ → Type 0
+Bytes l = (i : ℕ) → getD l i 0 < 256

@@ -2,8 +2,9 @@
 ghost use mathlib.Core.Path.{_≡_};
 ghost use Prim.Native.Nat.{_+_, _≤_};
 ghost use lib.ListN.{length, drop};
+ghost use Rattle.deps.specs.Batches.{kindFits, batchFits};
 ghost use Rattle.layout.specs.Numbers.{lay};
-ghost use Rattle.layout.specs.Batches.{kindOf, kindByte, keyOf, valueOf, requestAt, requestBytes, batchAt, batchBytes};
+ghost use Rattle.layout.specs.Batches.{kindOf, kindByte, keyOf, valueOf, requestAt, requestBytes, batchAt, batchBytes, requestPlain, batchPlain};
 use super::numbers::byte;
 use super::numbers::put_byte;
 use super::numbers::put_short;
@@ -115,4 +116,65 @@ pub fn put_batch(out: &mut [u8], at: usize, b: Batch)
         put_request(out, at + 1 + 27 * i, q);
         i += 1;
     }
+}
+
+// Whether the bytes of a key or value that the kind has none of are 0.
+fn request_plain(s: &[u8], at: usize) -> bool
+    requires { ⌜ at + 27 ≤ length (now s) ⌝ }
+    ensures { λ r. ⌜ r ≡ requestPlain (drop at (now (s .entry))) ⌝ }
+{
+    let kind = s[at + 16];
+    if kind == 1 {
+        return true;
+    }
+    if word(s, at + 19) != 0 {
+        return false;
+    }
+    if kind == 2 {
+        return true;
+    }
+    short(s, at + 17) == 0
+}
+
+// Of all four requests, those past the batch's count too.
+pub fn batch_plain(s: &[u8], at: usize) -> bool
+    requires { ⌜ at + 109 ≤ length (now s) ⌝ }
+    ensures { λ r. ⌜ r ≡ batchPlain (drop at (now (s .entry))) ⌝ }
+{
+    let mut i: usize = 0;
+    while i < 4 {
+        if !request_plain(s, at + 1 + 27 * i) {
+            return false;
+        }
+        i += 1;
+    }
+    true
+}
+
+// Whether the key of a put or get is at most 255, whatever the value.
+fn key_fits(s: &[u8], at: usize) -> bool
+    requires { ⌜ at + 27 ≤ length (now s) ⌝ }
+    ensures { λ r. ⌜ r ≡ kindFits (requestAt (drop at (now (s .entry))) .kind) ⌝ }
+{
+    let kind = kind_of(s[at + 16], short(s, at + 17), 0);
+    kind.fits()
+}
+
+// Whether a batch is within the bounds, of which only count, kinds and keys have any.
+pub fn batch_fits(s: &[u8], at: usize) -> bool
+    requires { ⌜ at + 109 ≤ length (now s) ⌝ }
+    ensures { λ r. ⌜ r ≡ batchFits (batchAt (drop at (now (s .entry)))) ⌝ }
+{
+    let count = size(s[at]);
+    if 4 < count {
+        return false;
+    }
+    let mut i: usize = 0;
+    while i < count {
+        if !key_fits(s, at + 1 + 27 * i) {
+            return false;
+        }
+        i += 1;
+    }
+    true
 }

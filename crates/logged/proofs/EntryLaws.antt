@@ -1,7 +1,7 @@
 -- The ways of the entry: refused, or done by what was logged.
 use mathlib.Core.Path.{_≡_, refl, _∙_}
 use mathlib.Core.List.{List, []}
-use mathlib.Core.Bool.{true, not}
+use mathlib.Core.Bool.{Bool, true, false, not}
 use Prim.Native.Nat.{ℕ, zero, suc, _+_, _≤_, _<_}
 use native.Mathlib.Omega.{arith}
 use lib.ListN.{length}
@@ -9,7 +9,6 @@ use lib.Seq.{sets}
 use Rattle.base.specs.declared.answer.Answer.the-variants.{Done}
 use Rattle.base.proofs.Loops.{count-at-most}
 use Rattle.bounds.specs.Bounds.{tableFits}
-use Rattle.table.specs.Table.{slotOf}
 use Rattle.table.specs.declared.place.Place.{Place}
 use Rattle.table.specs.declared.table.Table.{Table}
 use Rattle.outcomes.specs.Outcome.{refused, outcome, outcomeOf}
@@ -18,12 +17,11 @@ use Rattle.outcomes.proofs.RefusalLaws.{Led, placed-row}
 use Rattle.attempts.specs.Reads.{hasRun}
 use Rattle.attempts.specs.Attempt.{unrun}
 use Rattle.logged.specs.Refusal.{loggedRefusal}
-use Rattle.logged.specs.Replies.{preAcceptingOut, onAccepting}
 use Rattle.rising.specs.Attempts.{ranFrom}
 use Rattle.rising.specs.Committed.{onCommitted}
-use Rattle.logged.specs.Logged.{loggedOn, orderOn, loggedOf, loggedOrder}
+use Rattle.logged.specs.Logged.{noneRun, outcomeOn, replyStatus, loggedOn, orderOn, loggedOf, loggedOrder}
 use Rattle.base.specs.declared.log_status.LogStatus.{LogStatus}
-use Rattle.base.specs.declared.log_status.LogStatus.the-variants.{PreAccepting, Accepting, Committed}
+use Rattle.base.specs.declared.log_status.LogStatus.the-variants.{Committed}
 use Rattle.logged.specs.declared.logged.LogOutcome.{LogOutcome}
 use Rattle.rising.specs.declared.tails.Ran.{Ran}
 use Rattle.logged.proofs.RefusedLaws.{logged-logged}
@@ -33,7 +31,7 @@ module _ (t : Table) (at : Place) (status : LogStatus) (list : List ℕ) where
   abbrev Meets : LogOutcome → List ℕ → Type 0
   Meets r after = (r ≡ loggedOf t at status (length list)) × (after ≡ loggedOrder t at status list)
 
-  pub entry-refused : (number : ℕ) → number ≡ loggedRefusal t at (length list) → 0 < number → (o : Outcome) → o ≡ outcomeOf t (refused number) → Meets (record { outcome = o; ran = 0 }) list
+  pub entry-refused : (number : ℕ) → number ≡ loggedRefusal t at (length list) → 0 < number → (o : Outcome) → o ≡ outcomeOf t (refused number) → Meets (noneRun o) list
   unfolding loggedOf loggedOrder
   entry-refused zero e l o r = absurd (omega arith)
   entry-refused (suc k) e l o r = (rw (← e, r) refl, rw (← e) refl)
@@ -43,13 +41,10 @@ module _ (t : Table) (at : Place) (status : LogStatus) (list : List ℕ) where
     unfolding loggedOf loggedOrder
     passed r after e f = (e ∙ rw none refl, f ∙ rw none refl)
 
-    pub entry-pre-accepting : status ≡ PreAccepting → (o : Outcome) → o ≡ outcome Done t (preAcceptingOut at (slotOf t at)) → Meets (record { outcome = o; ran = 0 }) list
+    pub entry-replied : (accepting : Bool) → status ≡ replyStatus accepting → (o : Outcome) → o ≡ outcomeOn (replyStatus accepting) t at → Meets (noneRun o) list
     unfolding loggedOn orderOn
-    entry-pre-accepting s o e = passed (record { outcome = o; ran = 0 }) list (rw (s, e) refl) (rw s refl)
-
-    pub entry-accepting : status ≡ Accepting → (o : Outcome) → o ≡ onAccepting t at → Meets (record { outcome = o; ran = 0 }) list
-    unfolding loggedOn orderOn
-    entry-accepting s o e = passed (record { outcome = o; ran = 0 }) list (rw (s, e) refl) (rw s refl)
+    entry-replied true s o e = passed (noneRun o) list (rw (s, e) refl) (rw s refl)
+    entry-replied false s o e = passed (noneRun o) list (rw (s, e) refl) (rw s refl)
 
     pub entry-committed : status ≡ Committed → (ran : Ran) (o : Outcome) (after : List ℕ)
         → ran ≡ ranFrom 0 (onCommitted t at) → o ≡ outcome Done (ran .table) [] → after ≡ sets list 0 (onCommitted t at .wrote)
@@ -69,9 +64,6 @@ module _ (t : Table) (at : Place) (status : LogStatus) (list : List ℕ) where
 
     pub entry-row : at .row < 7
     entry-row = placed-row (led .placed)
-
-    pub entry-col : at .col < 32
-    entry-col = led .placed .col
 
     -- the list has room for all that has not run
     pub entry-room : unrun t ≤ length list

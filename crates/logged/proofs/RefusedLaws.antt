@@ -38,11 +38,11 @@ pub data LoggedRefused (t : Table) (at : Place) (entries : ℕ) : ℕ → Type 0
 module _ (t : Table) (at : Place) (entries : ℕ) where
   -- ---- the list first, then the slot
 
-  short-first : entries < 224 → loggedRefusal t at entries ≡ shortOrder
+  pub short-first : entries < 224 → loggedRefusal t at entries ≡ shortOrder
   unfolding loggedRefusal firstRefusal
   short-first l = rw (lt-leb 224 entries l)
 
-  then-slot : 224 ≤ entries → loggedRefusal t at entries ≡ leadRefusal t at
+  pub then-slot : 224 ≤ entries → loggedRefusal t at entries ≡ leadRefusal t at
   unfolding loggedRefusal leadRefusal firstRefusal
   then-slot l = rw (le-leb 224 entries l)
 

@@ -3,17 +3,21 @@ use mathlib.Core.List.{List, [], _∷_}
 use mathlib.Core.Bool.{Bool, true, false, cond}
 use Prim.Native.Nat.{ℕ, zero, suc}
 use Rattle.base.specs.declared.answer.Answer.the-variants.{Done}
+use Rattle.slots.specs.Slot.{nullSlot}
 use Rattle.slots.specs.declared.slot.Slot.{Slot}
 use Rattle.table.specs.Table.{slotOf}
 use Rattle.table.specs.declared.place.Place.{Place}
 use Rattle.table.specs.declared.table.Table.{Table}
-use Rattle.outcomes.specs.Output.{recordOf}
+use Rattle.outcomes.specs.Output.{recordOf, outputOf}
 use Rattle.outcomes.specs.Outcome.{outcome, outcomeOf, doneWith}
 use Rattle.outcomes.specs.declared.message.Message.{Message}
 use Rattle.outcomes.specs.declared.output.What.{What}
 use Rattle.outcomes.specs.declared.output.What.the-variants.{PreAcceptReply, AcceptReply, NoteToSelf}
 use Rattle.outcomes.specs.declared.output.Record.{Record}
+use Rattle.outcomes.specs.declared.output.Output.{Output}
 use Rattle.outcomes.specs.declared.outcome.Outcome.{Outcome}
+use Rattle.changes.specs.declared.change.Change.{Change}
+use Rattle.changes.specs.declared.change.Extent.the-variants.{Nothing}
 use Rattle.handlers.specs.Replies.{acceptReply}
 
 -- a reply to the source, which is 0 for none and p + 1 for the peer p
@@ -45,3 +49,10 @@ onAccepting t at =
 abbrev pub replyIf : Bool → ℕ → What
 replyIf true peer = AcceptReply peer
 replyIf false peer = PreAcceptReply peer
+
+-- the change that leaves the table as it was
+abbrev pub leaving : Output → Change
+leaving output = record { slot = nullSlot; output = output; answer = Done; extent = Nothing }
+
+abbrev pub puttingOut : List Record → Change
+puttingOut records = leaving (outputOf records)

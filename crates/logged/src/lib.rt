@@ -1,4 +1,3 @@
 // Log events.
-mod refusal; // refusal.rt: when a log event is refused
-mod replies; // replies.rt: what goes out once a slot is logged PreAccepting or Accepting
+pub mod replies; // replies.rt: what goes out once a slot is logged PreAccepting or Accepting
 pub mod logged; // logged.rt: a log event

@@ -1,13 +1,15 @@
 // A log event.
 ghost use mathlib.Core.Path.{_≡_};
 ghost use lib.ListN.{length};
-ghost use Rattle.logged.specs.Logged.{loggedOf, loggedOrder};
-use super::refusal;
-use super::replies;
+ghost use Rattle.logged.specs.Logged.{noneRun, loggedOf, loggedOrder};
+use super::replies::replied;
 use base::log_status::LogStatus;
+use base::refusals;
+use changes::view::look_plain;
 use outcomes::outcome::Outcome;
 use outcomes::output::Output;
-use rising::committed;
+use outcomes::refusal::of_led;
+use rising::committed::committed;
 use table::place::Place;
 use table::table::Table;
 
@@ -23,31 +25,20 @@ pub fn logged(table: Table, at: Place, status: LogStatus, order: &mut [u8]) -> L
     ensures result { λ r. ⌜ r ≡ loggedOf table at status (length (now (order .entry))) ⌝ }
     ensures list { λ r. ⌜ now (order .exit) ≡ loggedOrder table at status (now (order .entry)) ⌝ }
 {
-    let number = refusal::of_logged(table, at, order.len());
+    if order.len() < 224 {
+        return none_run(Outcome::refused(table, refusals::SHORT_ORDER));
+    }
+    let view = look_plain(table, at);
+    let config = view.config;
+    let number = of_led(view.within, config.n, view.held, at);
     if 0 < number {
-        let refused = Outcome::refused(table, number);
-        return LogOutcome {
-            outcome: refused,
-            ran: 0,
-        };
+        return none_run(Outcome::refused(table, number));
     }
     match status {
-        LogStatus::PreAccepting => {
-            let outcome = replies::pre_accepting(table, at);
-            LogOutcome {
-                outcome: outcome,
-                ran: 0,
-            }
-        }
-        LogStatus::Accepting => {
-            let outcome = replies::accepting(table, at);
-            LogOutcome {
-                outcome: outcome,
-                ran: 0,
-            }
-        }
+        LogStatus::PreAccepting => none_run(replied(false, view, at).apply(table, at)),
+        LogStatus::Accepting => none_run(replied(true, view, at).apply(table, at)),
         LogStatus::Committed => {
-            let ran = committed::committed(table, at, order);
+            let ran = committed(table, at, order);
             let after = ran.table;
             let outcome = Outcome::done(after, Output::NONE);
             LogOutcome {
@@ -55,5 +46,14 @@ pub fn logged(table: Table, at: Place, status: LogStatus, order: &mut [u8]) -> L
                 ran: ran.end,
             }
         }
+    }
+}
+
+fn none_run(outcome: Outcome) -> LogOutcome
+    ensures { λ r. ⌜ r ≡ noneRun outcome ⌝ }
+{
+    LogOutcome {
+        outcome: outcome,
+        ran: 0,
     }
 }

@@ -1,82 +1,96 @@
 // What goes out once a slot is logged PreAccepting or Accepting.
 ghost use mathlib.Core.Path.{_≡_};
 ghost use mathlib.Core.List.{[], _∷_};
-ghost use Prim.Native.Nat.{_<_};
-ghost use Rattle.base.specs.declared.answer.Answer.the-variants.{Done};
-ghost use Rattle.table.specs.Table.{slotOf};
+ghost use mathlib.Core.Bool.{true};
 ghost use Rattle.outcomes.specs.Output.{recordOf};
-ghost use Rattle.outcomes.specs.Outcome.{outcome};
-ghost use Rattle.logged.specs.Replies.{toSource, replyIf, preAcceptingOut, onAccepting, ownReply};
-use handlers::replies::accept_reply;
+ghost use Rattle.changes.specs.Change.{Seven};
+ghost use Rattle.logged.specs.Replies.{toSource, replyIf, leaving, puttingOut};
+ghost use Rattle.logged.specs.Logged.{RepliesWith};
+use base::answer::Answer;
+use changes::change::Change;
+use changes::change::Extent;
+use changes::view::View;
+use handlers::replies::reply;
 use outcomes::message::Message;
-use outcomes::outcome::Outcome;
 use outcomes::output::Output;
 use outcomes::output::Record;
 use outcomes::output::What;
 use slots::slot::Slot;
 use table::place::Place;
-use table::table::Table;
 
-// Led, a note to self; else a PreAcceptReply to the source; else nothing.
-pub(crate) fn pre_accepting(table: Table, at: Place) -> Outcome
-    requires { ⌜ at .row < 7 ⌝ }
-    requires { ⌜ at .col < 32 ⌝ }
-    ensures { λ r. ⌜ r ≡ outcome Done table (preAcceptingOut at (slotOf table at)) ⌝ }
+// The decision, for a slot that the table holds. Led, a note to self or, logged Accepting, as an AcceptReply from myself;
+// else a reply to the source; else nothing.
+pub fn replied(accepting: bool, view: View, at: Place) -> Change
+    requires { ⌜ Seven view ⌝ }
+    requires { ⌜ view .held ≡ true ⌝ }
+    ensures { λ r. ⌜ RepliesWith accepting view at r ⌝ }
 {
-    let slot = table.slot(at);
-    if slot.led {
-        return put_out(table, What::NoteToSelf, at, slot);
+    let slot = view.slot;
+    if !slot.led {
+        return to_source(accepting, at, slot);
     }
-    to_source(table, false, at, slot)
-}
-
-// Led, as an AcceptReply from myself; else an AcceptReply to the source; else nothing.
-pub(crate) fn accepting(table: Table, at: Place) -> Outcome
-    requires { ⌜ at .row < 7 ⌝ }
-    requires { ⌜ at .col < 32 ⌝ }
-    ensures { λ r. ⌜ r ≡ onAccepting table at ⌝ }
-{
-    let slot = table.slot(at);
-    if slot.led {
-        return own_reply(table, at, slot);
+    if accepting {
+        return own_reply(view, at);
     }
-    to_source(table, true, at, slot)
+    put_out(What::NoteToSelf, at, slot)
 }
 
 // A reply to the source, if the slot has one.
-fn to_source(table: Table, accepted: bool, at: Place, slot: Slot) -> Outcome
-    ensures { λ r. ⌜ r ≡ outcome Done table (toSource (slot .source) (replyIf accepted) at slot) ⌝ }
+fn to_source(accepting: bool, at: Place, slot: Slot) -> Change
+    ensures { λ r. ⌜ r ≡ puttingOut (toSource (slot .source) (replyIf accepting) at slot) ⌝ }
 {
     if slot.source < 1 {
-        return Outcome::done(table, Output::NONE);
+        return unchanged(Output::NONE);
     }
     let to = (slot.source - 1) as usize;
-    if accepted {
-        return put_out(table, What::AcceptReply { to: to }, at, slot);
+    if accepting {
+        return put_out(What::AcceptReply { to: to }, at, slot);
     }
-    put_out(table, What::PreAcceptReply { to: to }, at, slot)
+    put_out(What::PreAcceptReply { to: to }, at, slot)
 }
 
 // An AcceptReply from myself at the slot's ballot, done whatever it is answered.
-fn own_reply(table: Table, at: Place, slot: Slot) -> Outcome
-    ensures { λ r. ⌜ r ≡ ownReply table at (slot .ballot) ⌝ }
+fn own_reply(view: View, at: Place) -> Change
+    requires { ⌜ Seven view ⌝ }
+    requires { ⌜ view .held ≡ true ⌝ }
+    requires { ⌜ view .slot .led ≡ true ⌝ }
+    ensures { λ r. ⌜ RepliesWith true view at r ⌝ }
 {
-    let config = table.config;
+    let config = view.config;
+    let slot = view.slot;
     let message = Message {
         peer: config.own,
         at: at,
         ballot: slot.ballot,
     };
-    let replied = accept_reply(table, message);
-    let after = replied.table;
-    let output = replied.output;
-    Outcome::done(after, output)
+    let decided = reply(view, message);
+    let after = decided.slot;
+    let output = decided.output;
+    let extent = decided.extent;
+    Change {
+        slot: after,
+        output: output,
+        answer: Answer::Done,
+        extent: extent,
+    }
 }
 
 // One record of the slot.
-fn put_out(table: Table, what: What, at: Place, slot: Slot) -> Outcome
-    ensures { λ r. ⌜ r ≡ outcome Done table (recordOf what at slot ∷ []) ⌝ }
+fn put_out(what: What, at: Place, slot: Slot) -> Change
+    ensures { λ r. ⌜ r ≡ puttingOut (recordOf what at slot ∷ []) ⌝ }
 {
     let record = Record::of(what, at, slot);
-    Outcome::done(table, Output::one(record))
+    unchanged(Output::one(record))
+}
+
+// The table as it was.
+fn unchanged(output: Output) -> Change
+    ensures { λ r. ⌜ r ≡ leaving output ⌝ }
+{
+    Change {
+        slot: Slot::NULL,
+        output: output,
+        answer: Answer::Done,
+        extent: Extent::Nothing,
+    }
 }

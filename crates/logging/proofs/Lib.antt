@@ -1,1 +1,2 @@
 pub mod LoggingLaws
+pub mod ReplyOnLaws

@@ -23,7 +23,7 @@ use Rattle.handlers.specs.Replies.{acceptReply}
 use Rattle.attempts.specs.Attempt.{attemptOn}
 use Rattle.image.specs.Tables.{imageWidth, tableAt, imageKnown, TableWhole}
 use Rattle.output_bytes.specs.Output.{outputWidth}
-use Rattle.slot_bytes.proofs.ReadLaws.{Bytes}
+use Rattle.layout.specs.Numbers.{Bytes}
 use Rattle.base.specs.LogStatus.{isStatus, statusOf}
 use Rattle.logged.specs.Refusal.{loggedRefusal}
 use Rattle.rising.specs.Bars.{risenBar}

@@ -5,11 +5,15 @@ use Prim.Native.Nat.{ℕ}
 use lib.Dec.{leb}
 use lib.ListN.{length}
 use Rattle.base.specs.Refusals.{unreadable, shortOrder, outsideBounds}
+use Rattle.base.specs.declared.log_status.LogStatus.{LogStatus}
 use Rattle.table.specs.Place.{placeOf}
+use Rattle.table.specs.declared.place.Place.{Place}
+use Rattle.table.specs.declared.table.Table.{Table}
+use Rattle.outcomes.specs.Refusal.{leadRefusal}
 use Rattle.image.specs.Tables.{tableAt, imageKnown}
 use Rattle.output_bytes.specs.Output.{outputWidth}
 use Rattle.base.specs.LogStatus.{isStatus, statusOf}
-use Rattle.logged.specs.Logged.{loggedOf, loggedOrder}
+use Rattle.logged.specs.Logged.{replyStatus, loggedOr, loggedOf, loggedOrder}
 use Rattle.logged.specs.declared.logged.LogOutcome.{LogOutcome}
 use Rattle.calls.specs.Calls.{short, enough, imageLong, settled}
 use Rattle.attempting.specs.Attempting.{ranWidth, settledRan}
@@ -37,10 +41,16 @@ settledLog l image order ran out =
     }
 
 -- the event on the table that the image is
+abbrev pub eventOn : Place → LogStatus → List ℕ → List ℕ → List ℕ → List ℕ → LogCalled
+eventOn at status image order ran out =
+    settledLog (loggedOf (tableAt image) at status (length order)) image (loggedOrder (tableAt image) at status order) ran out
+
 abbrev pub onTable : ℕ → ℕ → ℕ → List ℕ → List ℕ → List ℕ → List ℕ → LogCalled
-onTable row col status image order ran out =
-    settledLog (loggedOf (tableAt image) (placeOf row col) (statusOf status) (length order)) image
-    (loggedOrder (tableAt image) (placeOf row col) (statusOf status) order) ran out
+onTable row col status image order ran out = eventOn (placeOf row col) (statusOf status) image order ran out
+
+-- one where only replies go out, with an order list that is long enough
+abbrev pub replyOn : Bool → Table → Place → LogOutcome
+replyOn accepting t at = loggedOr (leadRefusal t at) (replyStatus accepting) t at
 
 unfoldable pub logLong : List ℕ → List ℕ → List ℕ → Bool
 logLong image ran out = imageLong image && (enough ranWidth ran && enough outputWidth out)

@@ -12,7 +12,8 @@ use Rattle.outcomes.specs.declared.message.Message.{Message}
 use Rattle.octets.proofs.SetLaws.{rows-length}
 use Rattle.image.specs.Tables.{tableAt, imageKnown}
 use Rattle.image.proofs.TableLaws.{table-back, table-known}
-use Rattle.slot_bytes.proofs.ReadLaws.{Bytes, bytes-past, batch-read}
+use Rattle.layout.specs.Numbers.{Bytes}
+use Rattle.slot_bytes.proofs.ReadLaws.{bytes-past, batch-read}
 use Rattle.calls.specs.Calls.{imageLong}
 use Rattle.calls.proofs.WholeLaws.{ProposalWhole, empty-whole}
 use Rattle.messaging.specs.Messages.{openCode, openImage, proposalOf}

@@ -1,3 +1,4 @@
 pub mod SetLaws
 pub mod MarkLaws
 pub mod KnownLaws
+pub mod AgainLaws

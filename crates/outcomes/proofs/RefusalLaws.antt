@@ -68,9 +68,6 @@ proposal-taken t p e =
     heads zero q = sym q
     heads (suc k) q = absurd (omega (arith, head-refused t p (suc k) q (omega arith), e))
 
--- peers and rows are below 7
+-- a row is below 7
 pub placed-row : {t : Table} {at : Place} → Placed t at → at .row < 7
 placed-row {t} {at} h = row-below t (h .within) (at .row) (h .row)
-
-pub heard-peer : {t : Table} {m : Message} → Heard t m → m .peer < 7
-heard-peer {t} {m} h = row-below t (h .placed .within) (m .peer) (h .peer)

@@ -1,6 +1,6 @@
 // What a call does.
 ghost use mathlib.Core.Path.{_≡_};
-ghost use Rattle.outcomes.specs.Outcome.{outcomeOf, doneWith, refused, ignored};
+ghost use Rattle.outcomes.specs.Outcome.{outcomeOf, doneWith, refused};
 use super::output::Output;
 use base::answer::Answer;
 use table::table::Table;
@@ -18,16 +18,6 @@ impl Outcome {
     {
         Outcome {
             answer: Answer::Refused { number: number },
-            table: table,
-            output: Output::NONE,
-        }
-    }
-
-    pub fn ignored(table: Table) -> Outcome
-        ensures { λ r. ⌜ r ≡ outcomeOf table (ignored table) ⌝ }
-    {
-        Outcome {
-            answer: Answer::Ignored,
             table: table,
             output: Output::NONE,
         }

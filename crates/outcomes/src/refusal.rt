@@ -1,26 +1,26 @@
-// The first refusal, in the order of their numbers; 0 for none.
+// The first refusal, in the order of their numbers; 0 for none. Asked of what is known of a table: whether it is within the
+// bounds, and how many rows it has.
 ghost use mathlib.Core.Path.{_≡_};
-ghost use Rattle.outcomes.specs.Refusal.{messageRefusal, proposalRefusal, leadRefusal};
+ghost use mathlib.Core.List.{_++_};
+ghost use Rattle.base.specs.Refusals.{firstRefusal};
+ghost use Rattle.outcomes.specs.Refusal.{messageTestsIn, contentsTestsIn, leadTestsIn};
 use super::message::Message;
 use super::message::Proposal;
 use base::refusals;
-use bounds::bounds::fits;
-use bounds::bounds::refusal;
+use bounds::bounds::of_place;
 use table::place::Place;
-use table::table::Table;
 
-pub fn of_message(table: Table, message: Message) -> u64
-    ensures { λ r. ⌜ r ≡ messageRefusal table message ⌝ }
+pub fn of_message(within: bool, n: usize, message: Message) -> u64
+    ensures { λ r. ⌜ r ≡ firstRefusal (messageTestsIn within n message) ⌝ }
 {
-    if !fits(table) {
+    if !within {
         return refusals::OUTSIDE_BOUNDS;
     }
-    let config = table.config;
-    if config.n <= message.peer {
+    if n <= message.peer {
         return refusals::NO_REPLICA;
     }
     let at = message.at;
-    if config.n <= at.row {
+    if n <= at.row {
         return refusals::NO_REPLICA;
     }
     if 32 <= at.col {
@@ -29,17 +29,16 @@ pub fn of_message(table: Table, message: Message) -> u64
     0
 }
 
-pub fn of_proposal(table: Table, proposal: Proposal) -> u64
-    ensures { λ r. ⌜ r ≡ proposalRefusal table proposal ⌝ }
+pub fn of_proposal(within: bool, n: usize, proposal: Proposal) -> u64
+    ensures { λ r. ⌜ r ≡ firstRefusal (messageTestsIn within n (proposal .message) ++ contentsTestsIn n proposal) ⌝ }
 {
     let message = proposal.message;
-    let number = of_message(table, message);
+    let number = of_message(within, n, message);
     if 0 < number {
         return number;
     }
-    let config = table.config;
     let deps = proposal.deps;
-    if !deps.fits(config.n) {
+    if !deps.fits(n) {
         return refusals::BAD_DEPENDENCY;
     }
     let batch = proposal.batch;
@@ -52,14 +51,15 @@ pub fn of_proposal(table: Table, proposal: Proposal) -> u64
     0
 }
 
-pub fn of_lead(table: Table, at: Place) -> u64
-    ensures { λ r. ⌜ r ≡ leadRefusal table at ⌝ }
+// held: whether the table holds the place.
+pub fn of_led(within: bool, n: usize, held: bool, at: Place) -> u64
+    ensures { λ r. ⌜ r ≡ firstRefusal (leadTestsIn within n held at) ⌝ }
 {
-    let number = refusal(table, at);
+    let number = of_place(within, n, at);
     if 0 < number {
         return number;
     }
-    if !table.holds(at) {
+    if !held {
         return refusals::NO_SLOT;
     }
     0

@@ -1,1 +1,2 @@
 pub mod TestLaws
+pub mod TakeLaws

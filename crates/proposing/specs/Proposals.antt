@@ -27,16 +27,28 @@ use Rattle.proposing.specs.declared.proposals.Values.{Values}
 abbrev pub values : ℕ → DepSet → Values
 values seq deps = record { seq = seq; deps = deps }
 
--- my set = identify; dependencies = given ∪ mine; sequence = max(given, 1 + highest of mine)
+abbrev pub given : Proposal → Values
+given p = values (p .seq) (p .deps)
+
+-- dependencies = given ∪ mine; sequence = max(given, 1 + highest of mine)
+abbrev pub raisedFrom : DepSet → ℕ → Values → Values
+raisedFrom mine highest v = values (max (v .seq) (suc highest)) (unionOf (v .deps) mine)
+
+-- my set = identify
 unfoldable pub raisedBy : Table → Batch → Values → Values
-raisedBy t b given =
-    values (max (given .seq) (suc (highestOf t (identifyOf (t .keys) b)))) (unionOf (given .deps) (identifyOf (t .keys) b))
+raisedBy t b v = raisedFrom (identifyOf (t .keys) b) (highestOf t (identifyOf (t .keys) b)) v
 
 -- Accept and CommitNotice store as given
+abbrev pub phaseValues : Phase → Values → Values → Values
+phaseValues PreAccept raised v = raised
+phaseValues Accept raised v = v
+phaseValues CommitNotice raised v = v
+
+abbrev pub valuesFrom : Phase → DepSet → ℕ → Proposal → Values
+valuesFrom phase mine highest p = phaseValues phase (raisedFrom mine highest (given p)) (given p)
+
 abbrev pub valuesOf : Phase → Table → Proposal → Values
-valuesOf PreAccept t p = raisedBy t (p .batch) (values (p .seq) (p .deps))
-valuesOf Accept t p = values (p .seq) (p .deps)
-valuesOf CommitNotice t p = values (p .seq) (p .deps)
+valuesOf phase t p = phaseValues phase (raisedBy t (p .batch) (given p)) (given p)
 
 -- the source is the peer, and not touched by a CommitNotice
 abbrev pub storedFor : Phase → Slot → Message → Values → Batch → Slot

@@ -3,10 +3,15 @@ ghost use mathlib.Core.Path.{_≡_};
 ghost use Prim.Native.Nat.{_<_, _≤_, max};
 ghost use Rattle.base.specs.Refusals.{sequenceLimit};
 ghost use Rattle.outcomes.specs.Outcome.{outcomeOf};
-ghost use Rattle.proposing.specs.Proposals.{preAccept, accept, commitNotice, proposed, valuesOf, raisedBy, storedFor};
+ghost use Rattle.changes.specs.Change.{Makes, Seven};
+ghost use Rattle.proposing.specs.Proposals.{preAccept, accept, commitNotice, proposed, valuesFrom, raisedFrom, storedFor};
+use base::answer::Answer;
 use base::refusals;
 use base::status::Status;
-use bounds::highest::highest;
+use changes::change::Change;
+use changes::change::Extent;
+use changes::view::View;
+use changes::view::look;
 use deps::batches::Batch;
 use deps::sets::DepSet;
 use outcomes::message::Message;
@@ -35,69 +40,86 @@ pub struct Values {
 pub fn pre_accept(table: Table, proposal: Proposal) -> Outcome
     ensures { λ r. ⌜ r ≡ outcomeOf table (preAccept table proposal) ⌝ }
 {
-    take(Phase::PreAccept, table, proposal)
+    propose(Phase::PreAccept, table, proposal)
 }
 
 pub fn accept(table: Table, proposal: Proposal) -> Outcome
     ensures { λ r. ⌜ r ≡ outcomeOf table (accept table proposal) ⌝ }
 {
-    take(Phase::Accept, table, proposal)
+    propose(Phase::Accept, table, proposal)
 }
 
 pub fn commit_notice(table: Table, proposal: Proposal) -> Outcome
     ensures { λ r. ⌜ r ≡ outcomeOf table (commitNotice table proposal) ⌝ }
 {
-    take(Phase::CommitNotice, table, proposal)
+    propose(Phase::CommitNotice, table, proposal)
 }
 
-// What the three have in common: refusals, null slots, the ballot, the store, the log record.
-fn take(phase: Phase, table: Table, proposal: Proposal) -> Outcome
+// A table by value: looked at, decided, changed.
+fn propose(phase: Phase, table: Table, proposal: Proposal) -> Outcome
     ensures { λ r. ⌜ r ≡ outcomeOf table (proposed phase table proposal) ⌝ }
 {
-    let number = refusal::of_proposal(table, proposal);
-    if 0 < number {
-        return Outcome::refused(table, number);
-    }
     let message = proposal.message;
     let at = message.at;
-    let filled = table.fill(at);
-    let slot = filled.slot(at);
-    if message.ballot < slot.ballot {
-        return Outcome::ignored(filled);
+    let batch = proposal.batch;
+    let view = look(table, at, batch);
+    let change = take(phase, view, proposal);
+    change.apply(table, at)
+}
+
+// What the three have in common: refusals, the ballot, the slot to be stored, the log record. The view is of the proposal's
+// place and batch.
+pub fn take(phase: Phase, view: View, proposal: Proposal) -> Change
+    requires { ⌜ Seven view ⌝ }
+    ensures { λ r. ⌜ Makes (λ t. proposed phase t proposal) view (proposal .message .at) (proposal .batch) r ⌝ }
+{
+    let config = view.config;
+    let number = refusal::of_proposal(view.within, config.n, proposal);
+    if 0 < number {
+        return Change::refused(number);
     }
-    let values = values_for(phase, filled, proposal);
+    let message = proposal.message;
+    let slot = view.slot;
+    if message.ballot < slot.ballot {
+        return Change::ignored(Extent::Nulls);
+    }
+    let values = values_for(phase, view, proposal);
     if refusals::SEQUENCE_LIMIT < values.seq {
-        return Outcome::refused(table, refusals::OVER_LIMIT);
+        return Change::refused(refusals::OVER_LIMIT);
     }
     let batch = proposal.batch;
     let stored = stored_for(phase, slot, message, values, batch);
-    let log = Record::of(What::Log, at, stored);
-    Outcome::done(filled.store(at, stored), Output::one(log))
+    let log = Record::of(What::Log, message.at, stored);
+    Change {
+        slot: stored,
+        output: Output::one(log),
+        answer: Answer::Done,
+        extent: Extent::Keys,
+    }
 }
 
-fn values_for(phase: Phase, table: Table, proposal: Proposal) -> Values
-    ensures { λ r. ⌜ r ≡ valuesOf phase table proposal ⌝ }
+fn values_for(phase: Phase, view: View, proposal: Proposal) -> Values
+    ensures { λ r. ⌜ r ≡ valuesFrom phase (view .mine) (view .highest) proposal ⌝ }
 {
     let deps = proposal.deps;
     let given = Values {
         seq: proposal.seq,
         deps: deps,
     };
-    let batch = proposal.batch;
+    let mine = view.mine;
     match phase {
-        Phase::PreAccept => raised(given, table, batch),
+        Phase::PreAccept => raised(given, mine, view.highest),
         Phase::Accept => given,
         Phase::CommitNotice => given,
     }
 }
 
-// The values given, raised by what this table knows.
-fn raised(given: Values, table: Table, batch: Batch) -> Values
-    ensures { λ r. ⌜ r ≡ raisedBy table batch given ⌝ }
+// The values given, raised by what the table knows: my set, and its highest sequence.
+fn raised(given: Values, mine: DepSet, highest: u32) -> Values
+    ensures { λ r. ⌜ r ≡ raisedFrom mine highest given ⌝ }
 {
     let deps = given.deps;
-    let mine = table.identify(batch);
-    let next = 1 + highest(table, mine) as u64;
+    let next = 1 + highest as u64;
     Values {
         seq: greater(given.seq, next),
         deps: deps.union(mine),

@@ -1,2 +1,3 @@
 pub mod SlotLaws
 pub mod ReadLaws
+pub mod AgainLaws

@@ -9,17 +9,13 @@ use lib.ListN.{getD, drop}
 use lib.Seq.{getD-drop}
 use Rattle.deps.specs.Batches.{noRequest}
 use Rattle.deps.specs.declared.batches.Kind.the-variants.{Other, Put, Get}
-use Rattle.layout.specs.Numbers.{numberOf}
+use Rattle.layout.specs.Numbers.{numberOf, Bytes}
 use Rattle.layout.specs.Batches.{kindOf, keyOf, valueOf, requestAt, batchAt, RequestFits, BatchFits}
 use Rattle.layout.proofs.EachLaws.{each-is}
 use Rattle.layout.proofs.BatchLaws.{reqs-length}
 use Rattle.octets.proofs.SetLaws.{rows-length}
 use Rattle.octets.proofs.MarkLaws.{marks-length}
 use Rattle.slot_bytes.specs.Slot.{slotAt, SlotWhole}
-
--- each is a byte
-abbrev pub Bytes : List ℕ → Type 0
-Bytes l = (i : ℕ) → getD l i 0 < 256
 
 pub bytes-past : (k : ℕ) (l : List ℕ) → Bytes l → Bytes (drop k l)
 bytes-past k l h i = rw getD-drop (h (k + i))

@@ -1,16 +1,22 @@
 // A slot, 142 bytes.
 ghost use mathlib.Core.Path.{_≡_};
+ghost use mathlib.Core.Bool.{true};
 ghost use Prim.Native.Nat.{_+_, _≤_};
 ghost use lib.ListN.{length, drop};
+ghost use Rattle.slots.specs.Slot.{slotFits};
 ghost use Rattle.layout.specs.Numbers.{lay};
 ghost use Rattle.slot_bytes.specs.Slot.{narrowed, slotAt, slotKnown, markByte, marksBytes, headBytes, slotBytes};
 use super::contents::kinds_known;
 use super::contents::put_contents;
+use base::marks;
 use base::refusals;
 use base::status::Status;
 use layout::batches::batch_at;
+use layout::batches::batch_fits;
+use layout::batches::batch_plain;
 use layout::numbers::put_byte;
 use layout::numbers::put_word;
+use layout::numbers::size;
 use layout::numbers::word;
 use octets::known::each_below;
 use octets::marks::mark_of;
@@ -71,6 +77,25 @@ pub fn slot_known(s: &[u8], at: usize) -> bool
     kinds_known(s, at + 18)
 }
 
+// Whether a slot is within the bounds of n rows; the parts that have none are not read.
+pub fn slot_fits(s: &[u8], at: usize, n: usize) -> bool
+    requires { ⌜ at + 142 ≤ length (now s) ⌝ }
+    ensures { λ r. ⌜ r ≡ slotFits n (slotAt (drop at (now (s .entry)))) ⌝ }
+{
+    if n < size(s[at + 1]) {
+        return false;
+    }
+    let deps = set_at(s, at + 26);
+    if !deps.fits(n) {
+        return false;
+    }
+    if !batch_fits(s, at + 33) {
+        return false;
+    }
+    let marks = marks_at(s, at + 3);
+    marks::fit(marks, n)
+}
+
 fn mark_byte(mark: bool) -> u8
     ensures { λ r. ⌜ r ≡ markByte mark ⌝ }
 {
@@ -110,4 +135,18 @@ pub fn put_slot(out: &mut [u8], at: usize, slot: Slot)
     put_marks(out, at + 3, marks);
     put_word(out, at + 10, slot.ballot);
     put_contents(out, at + 18, slot.seq as u64, deps, batch);
+}
+
+// A slot written again as it is read: the bytes of a key or value that a request's kind has none of become 0. Most have none
+// to clear, and are not written.
+pub fn clear_slot(out: &mut [u8], at: usize)
+    requires { ⌜ at + 142 ≤ length (now out) ⌝ }
+    requires { ⌜ slotKnown (drop at (now out)) ≡ true ⌝ }
+    ensures { λ _. ⌜ now (out .exit) ≡ lay (now (out .entry)) at (slotBytes (slotAt (drop at (now (out .entry))))) ⌝ }
+{
+    if batch_plain(out, at + 33) {
+        return;
+    }
+    let slot = slot_at(out, at);
+    put_slot(out, at, slot);
 }

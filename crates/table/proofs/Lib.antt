@@ -1,2 +1,2 @@
 pub mod SlotReads
-mod NullLaws
+pub mod NullLaws

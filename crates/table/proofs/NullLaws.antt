@@ -16,7 +16,7 @@ use Rattle.slots.specs.declared.slot.Slot.{Slot}
 use Rattle.table.specs.declared.table.Table.{Table}
 use Rattle.table.proofs.SlotReads.{null-between, kept-outside, null-or-kept}
 
-length-nulls : (t : Table) (a b : ℕ) → length (nullsIn t a b) ≡ 224
+pub length-nulls : (t : Table) (a b : ℕ) → length (nullsIn t a b) ≡ 224
 unfolding nullsIn
 length-nulls t a b = length-below 224 (nullIn t a b)
 

@@ -1,8 +1,9 @@
--- `calls::calls::call` meets its contract: lengths first, then bytes that stand for nothing, then the entry on the table that the image is.
-use Rattle.calls.specs.Calls.{callLong, onImage, handledBy}
-use Rattle.outcomes.specs.Outcome.{outcomeOf}
-use Rattle.table.specs.declared.table.Table.{Table}
-use mathlib.Core.Path.{ap, sym, _∙_}
+-- `calls::calls::call` meets its contract: lengths first, then bytes that stand for nothing, then what the handler makes of a table that looks like the image's.
+use Rattle.calls.specs.Calls.{callLong, onImage}
+use Rattle.changes.proofs.ViewLaws.{seven-seen}
+use Rattle.image.specs.Tables.{tableAt}
+use Rattle.in_place.proofs.ViewLaws.{seven-rows}
+use mathlib.Core.Path.{sym, _∙_}
 use borrow.Author.Tests.{le-leb, lt-leb, eq-eqb, ne-eqb, not-true, not-false}
 use borrow.Author.Needs.{needs}
 use Rattle.calls.proofs.calls.call.Statement.{statement}
@@ -46,14 +47,17 @@ returns-4 c =
     let i = sym (k .is-known .ensures) ∙ not-true _ (c .if4 .taken) in
     (rw (f, g, h, i), (rw (f, g, h, i), rw (f, g, h, i)))
 
-table-at-requires : tie.Need-table-at-requires
-table-at-requires c κs = search needs
+look-at-requires : tie.Need-look-at-requires
+look-at-requires c κs = search needs
 
-handle-requires : tie.Need-handle-requires
-handle-requires c κs = search needs
+decide-requires : tie.Need-decide-requires
+decide-requires c κs = rw (c .look-at .ensures) (seven-seen _ _ _)
 
-settle-requires : tie.Need-settle-requires
-settle-requires c κs = search needs
+settle-at-requires : tie.Need-settle-at-requires
+settle-at-requires c κs =
+    let d = c .before .before in
+    let q = d .before .before .before .before .before .before in
+    (search needs, (sym (q .before .is-known .ensures) ∙ not-false _ (q .if4 .left), (search needs, d .decide .ensures .inside)))
 
 same-length-2 : tie.Need-same-length-2
 same-length-2 c = search needs
@@ -66,17 +70,18 @@ unfolding onImage callLong
 returns-5 c =
     let s = c .before .before .before .before in
     let d = s .before .before .before in
-    let t = d .before in
-    let q = t .before .before in
+    let v = d .before in
+    let q = v .before .before .before .before .before in
     let k = q .before in
     let n = k .before .before in
     let a = n .before .before .before .before .before .args in
+    let l = a .image .now in
     let f = eq-eqb _ _ (n .before .before .if1 .left) in
     let g = le-leb _ _ (n .before .if2 .left) in
     let h = not-false (a .known) (n .if3 .left) in
     let i = sym (k .is-known .ensures) ∙ not-false _ (q .if4 .left) in
-    let e = d .handle .ensures ∙ ap (λ (u : Table). outcomeOf u (handledBy (a .handler) (a .proposal) u)) (t .table-at .ensures) in
-    (rw (f, g, h, i, ← e) (s .settle .ensures .0), (rw (f, g, h, i, ← e) (s .settle .ensures .1 .0), rw (f, g, h, i, ← e) (s .settle .ensures .1 .1)))
+    let e = d .decide .ensures .same (tableAt l) (seven-rows l) (sym (v .look-at .ensures)) in
+    (rw (f, g, h, i, ← e) (s .settle-at .ensures .0), (rw (f, g, h, i, ← e) (s .settle-at .ensures .1 .0), rw (f, g, h, i, ← e) (s .settle-at .ensures .1 .1)))
 
 pub call-spec : {M : Type 1} → statement M
 call-spec =
@@ -88,9 +93,9 @@ call-spec =
     is-known-requires
     same-length
     returns-4
-    table-at-requires
-    handle-requires
-    settle-requires
+    look-at-requires
+    decide-requires
+    settle-at-requires
     same-length-2
     same-length-3
     returns-5)

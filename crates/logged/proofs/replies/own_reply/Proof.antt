@@ -1,21 +1,16 @@
 -- `logged::replies::own_reply` meets its contract: done with what the reply leaves and puts out.
-use mathlib.Core.Path.{ap, _∙_}
-use borrow.Author.Needs.{needs}
-use Rattle.outcomes.specs.Outcome.{doneWith}
-use Rattle.outcomes.specs.declared.outcome.Outcome.{Outcome}
-use Rattle.logged.specs.Replies.{ownReply}
+use Rattle.logged.proofs.ReplyLaws.{own-replies}
 use Rattle.logged.proofs.replies.own_reply.Statement.{statement}
 use Rattle.logged.proofs.replies.own_reply.Tie as tie
 
-accept-reply-requires : tie.Need-accept-reply-requires
-accept-reply-requires c κs = search needs
-
-done-requires : tie.Need-done-requires
-done-requires c κs = search needs
+reply-requires : tie.Need-reply-requires
+reply-requires c κs = c .before .before .pre .0
 
 returns : tie.Need-returns
-unfolding ownReply
-returns c = c .done .ensures ∙ ap (λ (o : Outcome). doneWith (o .table) (o .output)) (c .before .before .before .accept-reply .ensures)
+returns c =
+    let r = c .before .before in
+    let s = r .before .before .before in
+    own-replies (s .args .view) (s .args .at) (s .pre .1 .0) (s .pre .1 .1) (r .reply .result) (r .reply .ensures)
 
 pub own-reply-spec : {M : Type 1} → statement M
-own-reply-spec = tie.close (tie.spec accept-reply-requires done-requires returns)
+own-reply-spec = tie.close (tie.spec reply-requires returns)

@@ -5,21 +5,19 @@ use mathlib.Core.List.{[], _∷_}
 use Prim.Native.Nat.{_-_}
 use native.Mathlib.Omega.{arith}
 use borrow.Author.Needs.{needs}
-use Rattle.base.specs.declared.answer.Answer.the-variants.{Done}
 use Rattle.outcomes.specs.Output.{recordOf}
-use Rattle.outcomes.specs.Outcome.{outcome}
-use Rattle.logged.specs.Replies.{replyIf}
+use Rattle.logged.specs.Replies.{replyIf, puttingOut}
 use Rattle.logged.proofs.ReplyLaws.{no-source, some-source}
 use Rattle.logged.proofs.replies.to_source.Statement.{statement}
 use Rattle.logged.proofs.replies.to_source.Tie as tie
 
-done-requires : tie.Need-done-requires
-done-requires c κs = search needs
+unchanged-requires : tie.Need-unchanged-requires
+unchanged-requires c κs = search needs
 
 returns : tie.Need-returns
 returns c =
     let a = c .before .before .before .args in
-    c .done .ensures ∙ no-source (a .table) (a .at) (a .slot) (a .accepted) (c .before .if1 .taken)
+    c .unchanged .ensures ∙ ap puttingOut (no-source (a .at) (a .slot) (a .accepting) (c .before .if1 .taken))
 
 cast-to : tie.Need-cast-to
 cast-to c = search needs
@@ -33,8 +31,8 @@ returns-2 c =
     let i = k .before .before in
     let a = i .before .before .args in
     c .put-out .ensures
-    ∙ ap (λ (b : Bool). outcome Done (a .table) (recordOf (replyIf b (a .slot .source - 1)) (a .at) (a .slot) ∷ [])) (sym (k .if2 .taken))
-    ∙ some-source (a .table) (a .at) (a .slot) (a .accepted) (omega (arith, i .if1 .left))
+    ∙ ap (λ (b : Bool). puttingOut (recordOf (replyIf b (a .slot .source - 1)) (a .at) (a .slot) ∷ [])) (sym (k .if2 .taken))
+    ∙ ap puttingOut (some-source (a .at) (a .slot) (a .accepting) (omega (arith, i .if1 .left)))
 
 put-out-requires-2 : tie.Need-put-out-requires-2
 put-out-requires-2 c κs = search needs
@@ -45,9 +43,9 @@ returns-3 c =
     let i = k .before .before in
     let a = i .before .before .args in
     c .put-out2 .ensures
-    ∙ ap (λ (b : Bool). outcome Done (a .table) (recordOf (replyIf b (a .slot .source - 1)) (a .at) (a .slot) ∷ [])) (sym (k .if2 .left))
-    ∙ some-source (a .table) (a .at) (a .slot) (a .accepted) (omega (arith, i .if1 .left))
+    ∙ ap (λ (b : Bool). puttingOut (recordOf (replyIf b (a .slot .source - 1)) (a .at) (a .slot) ∷ [])) (sym (k .if2 .left))
+    ∙ ap puttingOut (some-source (a .at) (a .slot) (a .accepting) (omega (arith, i .if1 .left)))
 
 pub to-source-spec : {M : Type 1} → statement M
 to-source-spec =
-    tie.close (tie.spec done-requires returns cast-to put-out-requires returns-2 put-out-requires-2 returns-3)
+    tie.close (tie.spec unchanged-requires returns cast-to put-out-requires returns-2 put-out-requires-2 returns-3)

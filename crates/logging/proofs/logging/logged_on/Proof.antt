@@ -1,12 +1,48 @@
--- `logging::logging::logged_on` meets its contract: lengths first, then the log status, then refusal 8, then bytes that stand for nothing, then the event on
--- the table that the image is.
+-- `logging::logging::logged_on` meets its contract: lengths first, then the log status, then refusal 8, then bytes that stand for nothing, then the event,
+-- in place or on the table.
+use mathlib.Core.Path.{_≡_, refl, ap, sym, _∙_}
+use mathlib.Core.Bool.{true, false}
 use borrow.Author.Tests.{le-leb, lt-leb}
 use borrow.Author.Needs.{needs}
 use Rattle.base.proofs.Tests.{passed, failed}
-use Rattle.logging.specs.Logging.{logCall}
-use Rattle.logging.proofs.LoggingLaws.{long-each}
+use Rattle.base.specs.declared.log_status.LogStatus.{LogStatus}
+use Rattle.table.specs.Place.{placeOf}
+use Rattle.image.specs.Tables.{tableAt, imageKnown}
+use Rattle.logging.specs.Logging.{onTable, eventOn, logCall}
+use Rattle.logging.proofs.LoggingLaws.{Long, long-each}
+use Rattle.logging.proofs.ReplyOnLaws.{reply-called}
 use Rattle.logging.proofs.logging.logged_on.Statement.{statement}
 use Rattle.logging.proofs.logging.logged_on.Tie as tie
+
+-- the entry's arguments, once the lengths are right
+abbrev start : tie.Else1 → tie.Start
+start l = l .before .before .before .before .before .before .before .before .before
+
+long : (l : tie.Else1) → let a = start l .args in Long (a .image .now) (a .ran .now) (a .out .now)
+long l = long-each _ _ _ (passed (l .before .is-long .ensures) (l .if1 .left))
+
+-- where nothing is tested any more
+abbrev lengths : tie.Else4 → tie.Else1
+lengths q = q .before .before .before .before .before .before
+
+known : (q : tie.Else4) → imageKnown (start (lengths q) .args .image .now) ≡ true
+known q = passed (q .before .is-known .ensures) (q .if4 .left)
+
+past : (q : tie.Else4) → let a = start (lengths q) .args in
+    logCall (a .row) (a .col) (a .status) (a .image .now) (a .order .now) (a .ran .now) (a .out .now) ≡ onTable (a .row) (a .col) (a .status) (a .image .now) (a .order .now) (a .ran .now) (a .out .now)
+unfolding logCall
+past q =
+    let n = q .before .before .before in
+    let m = n .before in
+    let l = m .before .before in
+    rw (passed (l .before .is-long .ensures) (l .if1 .left), passed (m .before .is-status .ensures) (m .if2 .left), le-leb _ _ (n .if3 .left), known q) refl
+
+-- by what was logged
+by-status : (o : tie.After-of) (s : LogStatus) → o .of .result ≡ s → let a = start (lengths (o .before)) .args in
+    logCall (a .row) (a .col) (a .status) (a .image .now) (a .order .now) (a .ran .now) (a .out .now) ≡ eventOn (placeOf (a .row) (a .col)) s (a .image .now) (a .order .now) (a .ran .now) (a .out .now)
+by-status o s e =
+    let a = start (lengths (o .before)) .args in
+    past (o .before) ∙ ap (λ (x : LogStatus). eventOn (placeOf (a .row) (a .col)) x (a .image .now) (a .order .now) (a .ran .now) (a .out .now)) (sym (o .of .ensures) ∙ e)
 
 is-long-requires : tie.Need-is-long-requires
 is-long-requires c κs = search needs
@@ -66,9 +102,7 @@ returns-3 c =
     (rw (f, g, h), (rw (f, g, h), (rw (f, g, h), (rw (f, g, h), rw (f, g, h)))))
 
 is-known-requires : tie.Need-is-known-requires
-is-known-requires c κs =
-    let l = c .before .before .before .before in
-    long-each _ _ _ (passed (l .before .is-long .ensures) (l .if1 .left)) .image-long
+is-known-requires c κs = long (c .before .before .before .before) .image-long
 
 same-length-10 : tie.Need-same-length-10
 same-length-10 c = search needs
@@ -91,30 +125,35 @@ returns-4 c =
     let i = failed (c .before .is-known .ensures) (c .if4 .taken) in
     (rw (f, g, h, i), (rw (f, g, h, i), (rw (f, g, h, i), (rw (f, g, h, i), rw (f, g, h, i)))))
 
-table-at-requires : tie.Need-table-at-requires
-table-at-requires c κs =
-    let l = c .before .before .before .before .before .before .before in
-    long-each _ _ _ (passed (l .before .is-long .ensures) (l .if1 .left)) .image-long
-
 of-requires : tie.Need-of-requires
 of-requires c κs = search needs
 
-logged-requires : tie.Need-logged-requires
-logged-requires c κs = search needs
+enum-told : tie.Need-enum-told
+enum-told c = search needs
 
-put-ran-requires : tie.Need-put-ran-requires
-put-ran-requires c κs =
-    let t = c .before .before .before .before .before .before .before in
-    let l = t .before .before .before .before .before .before .before .before in
-    long-each _ _ _ (passed (l .before .is-long .ensures) (l .if1 .left)) .ran-long
+replied-on-requires : tie.Need-replied-on-requires
+replied-on-requires c κs =
+    let q = c .before .before .before .before .before .before in
+    let h = long (lengths q) in
+    (h .image-long, (known q, (h .ran-long, h .out-long)))
 
-settle-requires : tie.Need-settle-requires
-settle-requires c κs =
-    let d = c .before .before .before .before .before .before .before .before .before in
-    let t = d .before .before .before in
-    let l = t .before .before .before .before .before .before .before .before in
-    let h = long-each _ _ _ (passed (l .before .is-long .ensures) (l .if1 .left)) in
-    (h .image-long, h .out-long)
+enum-told-2 : tie.Need-enum-told-2
+enum-told-2 c = search needs
+
+replied-on-requires-2 : tie.Need-replied-on-requires-2
+replied-on-requires-2 c κs =
+    let q = c .before .before .before .before .before .before in
+    let h = long (lengths q) in
+    (h .image-long, (known q, (h .ran-long, h .out-long)))
+
+enum-told-3 : tie.Need-enum-told-3
+enum-told-3 c = search needs
+
+committed-on-requires : tie.Need-committed-on-requires
+committed-on-requires c κs =
+    let q = c .before .before .before .before .before .before .before in
+    let h = long (lengths q) in
+    (h .image-long, (h .ran-long, h .out-long))
 
 same-length-13 : tie.Need-same-length-13
 same-length-13 c = search needs
@@ -125,30 +164,56 @@ same-length-14 c = search needs
 same-length-15 : tie.Need-same-length-15
 same-length-15 c = search needs
 
+returns-5 : tie.Need-returns-5
+returns-5 c =
+    let p = c .before .before .before .before .before .before in
+    let e = p .before .before .before .before in
+    let o = e .before .before in
+    let q = o .before in
+    let a = start (lengths q) .args in
+    let h = by-status o _ (e .enum-told .given .1) ∙ reply-called false (tableAt (a .image .now)) (placeOf (a .row) (a .col)) (a .image .now) (a .order .now) (a .ran .now) (a .out .now) refl (q .before .before .before .if3 .left) in
+    let w = p .replied-on .ensures in
+    (rw h (w .0), (rw h (w .1 .0), (rw h refl, (rw h (w .1 .1 .0), rw h (w .1 .1 .1)))))
+
 same-length-16 : tie.Need-same-length-16
 same-length-16 c = search needs
 
-returns-5 : tie.Need-returns-5
-unfolding logCall
-returns-5 c =
-    let s = c .before .before .before .before in
-    let r = s .before .before .before .before .before in
-    let d = r .before .before .before .before .before in
-    let o = d .before .before in
-    let t = o .before in
-    let q = t .before .before in
-    let k = q .before in
-    let n = k .before .before in
-    let m = n .before in
-    let l = m .before .before in
-    let f = passed (l .before .is-long .ensures) (l .if1 .left) in
-    let g = passed (m .before .is-status .ensures) (m .if2 .left) in
-    let h = le-leb _ _ (n .if3 .left) in
-    let i = passed (k .is-known .ensures) (q .if4 .left) in
-    let e = rw (t .table-at .ensures, o .of .ensures) at (d .logged .ensures) in (
-      rw (f, g, h, i, ← e .0) (s .settle .ensures .0),
-      (rw (f, g, h, i, ← e .0) (s .settle .ensures .1 .0), (rw (f, g, h, i) (e .1), (rw (f, g, h, i, ← e .0) (r .put-ran .ensures), rw (f, g, h, i, ← e .0) (s .settle .ensures .1 .1)))),
-    )
+same-length-17 : tie.Need-same-length-17
+same-length-17 c = search needs
+
+same-length-18 : tie.Need-same-length-18
+same-length-18 c = search needs
+
+returns-6 : tie.Need-returns-6
+returns-6 c =
+    let p = c .before .before .before .before .before .before in
+    let e = p .before .before .before .before in
+    let o = e .before .before in
+    let q = o .before in
+    let a = start (lengths q) .args in
+    let h = by-status o _ (e .enum-told2 .given .1) ∙ reply-called true (tableAt (a .image .now)) (placeOf (a .row) (a .col)) (a .image .now) (a .order .now) (a .ran .now) (a .out .now) refl (q .before .before .before .if3 .left) in
+    let w = p .replied-on2 .ensures in
+    (rw h (w .0), (rw h (w .1 .0), (rw h refl, (rw h (w .1 .1 .0), rw h (w .1 .1 .1)))))
+
+same-length-19 : tie.Need-same-length-19
+same-length-19 c = search needs
+
+same-length-20 : tie.Need-same-length-20
+same-length-20 c = search needs
+
+same-length-21 : tie.Need-same-length-21
+same-length-21 c = search needs
+
+same-length-22 : tie.Need-same-length-22
+same-length-22 c = search needs
+
+returns-7 : tie.Need-returns-7
+returns-7 c =
+    let p = c .before .before .before .before .before .before .before .before in
+    let e = p .before .before .before .before .before in
+    let h = by-status (e .before .before) _ (e .enum-told3 .given .1) in
+    let w = p .committed-on .ensures in
+    (rw h (w .0), (rw h (w .1 .0), (rw h (w .1 .1 .0), (rw h (w .1 .1 .1 .0), rw h (w .1 .1 .1 .1)))))
 
 pub logged-on-spec : {M : Type 1} → statement M
 logged-on-spec =
@@ -173,13 +238,23 @@ logged-on-spec =
     same-length-11
     same-length-12
     returns-4
-    table-at-requires
     of-requires
-    logged-requires
-    put-ran-requires
-    settle-requires
+    enum-told
+    replied-on-requires
+    enum-told-2
+    replied-on-requires-2
+    enum-told-3
+    committed-on-requires
     same-length-13
     same-length-14
     same-length-15
+    returns-5
     same-length-16
-    returns-5)
+    same-length-17
+    same-length-18
+    returns-6
+    same-length-19
+    same-length-20
+    same-length-21
+    same-length-22
+    returns-7)

@@ -1,49 +1,41 @@
 -- `outcomes::refusal::of_message` meets its contract: each test in its turn.
-use Rattle.base.proofs.Tests.{passed, failed}
 use Rattle.base.specs.Refusals.{firstRefusal}
-use Rattle.outcomes.specs.Refusal.{messageRefusal}
-use Prim.Native.Nat.{_-_}
-use borrow.Author.Tests.{lt-ltb, le-ltb}
-use borrow.Author.Needs.{needs}
+use borrow.Author.Tests.{lt-ltb, le-ltb, not-true, not-false}
 use Rattle.outcomes.proofs.refusal.of_message.Statement.{statement}
 use Rattle.outcomes.proofs.refusal.of_message.Tie as tie
 
-fits-requires : tie.Need-fits-requires
-fits-requires c κs = search needs
-
 returns : tie.Need-returns
-unfolding messageRefusal firstRefusal
-returns c = simp (failed (c .before .fits2 .ensures) (c .if1 .taken))
+unfolding firstRefusal
+returns c = simp (not-true (c .before .args .within) (c .if1 .taken))
 
 returns-2 : tie.Need-returns-2
-unfolding messageRefusal firstRefusal
+unfolding firstRefusal
 returns-2 c =
-    let a = c .before .before .before .before in
-    simp (passed (a .before .fits2 .ensures) (a .if1 .left), le-ltb _ _ (c .if2 .taken))
+    let i = c .before .before in
+    simp (not-false (i .before .args .within) (i .if1 .left), le-ltb _ _ (c .if2 .taken))
 
 returns-3 : tie.Need-returns-3
-unfolding messageRefusal firstRefusal
+unfolding firstRefusal
 returns-3 c =
-    let b = c .before .before .before .before in
-    let a = b .before .before .before .before in
-    simp (passed (a .before .fits2 .ensures) (a .if1 .left), lt-ltb _ _ (b .if2 .left), le-ltb _ _ (c .if3 .taken))
+    let b = c .before .before .before in
+    let i = b .before .before in
+    simp (not-false (i .before .args .within) (i .if1 .left), lt-ltb _ _ (b .if2 .left), le-ltb _ _ (c .if3 .taken))
 
 returns-4 : tie.Need-returns-4
-unfolding messageRefusal firstRefusal
+unfolding firstRefusal
 returns-4 c =
     let d = c .before .before in
-    let b = d .before .before .before .before in
-    let a = b .before .before .before .before in
-    simp (passed (a .before .fits2 .ensures) (a .if1 .left), lt-ltb _ _ (b .if2 .left), lt-ltb _ _ (d .if3 .left), le-ltb _ _ (c .if4 .taken))
+    let b = d .before .before .before in
+    let i = b .before .before in
+    simp (not-false (i .before .args .within) (i .if1 .left), lt-ltb _ _ (b .if2 .left), lt-ltb _ _ (d .if3 .left), le-ltb _ _ (c .if4 .taken))
 
 returns-5 : tie.Need-returns-5
-unfolding messageRefusal firstRefusal
+unfolding firstRefusal
 returns-5 c =
     let d = c .before .before in
-    let b = d .before .before .before .before in
-    let a = b .before .before .before .before in
-    simp (passed (a .before .fits2 .ensures) (a .if1 .left), lt-ltb _ _ (b .if2 .left), lt-ltb _ _ (d .if3 .left), lt-ltb _ _ (c .if4 .left))
+    let b = d .before .before .before in
+    let i = b .before .before in
+    simp (not-false (i .before .args .within) (i .if1 .left), lt-ltb _ _ (b .if2 .left), lt-ltb _ _ (d .if3 .left), lt-ltb _ _ (c .if4 .left))
 
 pub of-message-spec : {M : Type 1} → statement M
-of-message-spec =
-    tie.close (tie.spec fits-requires returns returns-2 returns-3 returns-4 returns-5)
+of-message-spec = tie.close (tie.spec returns returns-2 returns-3 returns-4 returns-5)

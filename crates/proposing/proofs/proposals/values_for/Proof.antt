@@ -1,5 +1,5 @@
 -- `proposing::proposals::values_for` meets its contract: one case for each phase.
-use Rattle.proposing.specs.Proposals.{valuesOf}
+use Rattle.proposing.specs.Proposals.{valuesFrom}
 use Rattle.proposing.specs.declared.proposals.Phase.{Phase}
 use mathlib.Core.Path.{ap, sym, _∙_}
 use Prim.Native.Nat.{_-_}
@@ -23,17 +23,17 @@ returns : tie.Need-returns
 returns c =
     let e = c .before in
     let a = e .before .before .before .before .args in
-    c .raised .ensures ∙ sym (ap (λ (h : Phase). valuesOf h (a .table) (a .proposal)) (e .enum-told .given .1))
+    c .raised .ensures ∙ sym (ap (λ (h : Phase). valuesFrom h (a .view .mine) (a .view .highest) (a .proposal)) (e .enum-told .given .1))
 
 returns-2 : tie.Need-returns-2
 returns-2 c =
     let a = c .before .before .before .before .args in
-    sym (ap (λ (h : Phase). valuesOf h (a .table) (a .proposal)) (c .enum-told2 .given .1))
+    sym (ap (λ (h : Phase). valuesFrom h (a .view .mine) (a .view .highest) (a .proposal)) (c .enum-told2 .given .1))
 
 returns-3 : tie.Need-returns-3
 returns-3 c =
     let a = c .before .before .before .before .args in
-    sym (ap (λ (h : Phase). valuesOf h (a .table) (a .proposal)) (c .enum-told3 .given .1))
+    sym (ap (λ (h : Phase). valuesFrom h (a .view .mine) (a .view .highest) (a .proposal)) (c .enum-told3 .given .1))
 
 pub values-for-spec : {M : Type 1} → statement M
 values-for-spec =
