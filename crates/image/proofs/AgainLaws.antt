@@ -1,6 +1,6 @@
 -- A table that is read and written again in its place: what stands before the slots is as it was.
 use mathlib.Core.Path.{_≡_, refl, ap, sym, _∙_}
-use mathlib.Core.List.{List, [], _∷_, _++_}
+use mathlib.Core.List.{List}
 use Prim.Native.Nat.{ℕ, _+_, _*_, _<_, min}
 use native.Mathlib.Omega.{arith}
 use lib.ListN.{length, getD, drop, replicate}
@@ -11,11 +11,11 @@ use Rattle.layout.specs.Numbers.{byteOf, byteFor, lay, Bytes}
 use Rattle.layout.proofs.Laying.{Laid, next, lay-whole}
 use Rattle.layout.proofs.EachLaws.{each-is}
 use Rattle.layout.proofs.AgainLaws.{byte-again, first-past, each-again}
-use Rattle.octets.specs.Sets.{rowsAt, setAt, setBytes}
+use Rattle.octets.specs.Sets.{rowsAt, setAt}
 use Rattle.octets.proofs.SetLaws.{set-length}
 use Rattle.octets.proofs.AgainLaws.{set-again}
 use Rattle.image.specs.Tables.{imageWidth, configAt, keysAt, slotsAt, tableAt, configBytes, rowIn, rowsBytes, columnsIn, keysBytes, slotsBytes, tableBytes}
-use Rattle.image.proofs.TableLaws.{config-length, rows-bytes-length, keys-length, slots-length, table-length}
+use Rattle.image.proofs.TableLaws.{rows-bytes-length, keys-length, slots-length, table-length}
 
 module _ (l : List ℕ) (h : Bytes l) where
   for-again : (p v : ℕ) → v ≡ getD l p 0 → l ≡ lay l p (byteFor v)

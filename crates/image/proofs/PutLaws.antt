@@ -1,6 +1,6 @@
 -- A part of a table written over in its bytes: they are those of the table with that part, and the other parts stay.
 use mathlib.Core.Path.{_≡_, refl, ap, sym, _∙_}
-use mathlib.Core.List.{List, [], _++_, append-assoc, append-nil}
+use mathlib.Core.List.{List, _++_, append-assoc}
 use Prim.Native.Nat.{ℕ, _+_, _*_, _<_}
 use native.Mathlib.Omega.{arith}
 use lib.ListN.{length, getD, set, length-append}
@@ -16,7 +16,7 @@ use Rattle.layout.proofs.PlaceLaws.{lay-right, lay-left, each-put}
 use Rattle.slot_bytes.specs.Slot.{slotBytes}
 use Rattle.slot_bytes.proofs.SlotLaws.{slot-length}
 use Rattle.image.specs.Tables.{configBytes, rowIn, rowsBytes, keysBytes, slotIn, slotsBytes, tableBytes}
-use Rattle.image.proofs.TableLaws.{config-length, rows-bytes-length, keys-length, slots-length}
+use Rattle.image.proofs.TableLaws.{config-length, rows-bytes-length, keys-length}
 
 module _ (t : Table) where
   -- what stands before the slots

@@ -1,16 +1,15 @@
 -- What is read from bytes, written again in its place, leaves them as they were.
 use mathlib.Core.Path.{_≡_, refl, ap, sym, _∙_}
-use mathlib.Core.List.{List, [], _∷_, _++_}
-use mathlib.Core.Bool.{Bool, true, _&&_, _||_}
+use mathlib.Core.List.{List, [], _∷_}
+use mathlib.Core.Bool.{true}
 use Prim.Native.Nat.{ℕ, zero, suc, _+_, _*_, _/_, _%_, _<_, min}
 use native.Mathlib.Numerals.{add-one}
 use native.Mathlib.Omega.{arith}
 use borrow.Author.Tests.{eqb-true}
-use lib.Dec.{eqb}
 use lib.ListN.{length, getD, drop, set}
 use lib.Seq.{drop-drop, getD-drop}
 use Rattle.base.proofs.Loops.{both-true, all-at}
-use Rattle.deps.specs.Batches.{noRequest, request}
+use Rattle.deps.specs.Batches.{noRequest}
 use Rattle.layout.specs.Numbers.{numberOf, numberBytes, wordOf, wordBytes, shortOf, shortBytes, byteOf, lay, Bytes}
 use Rattle.layout.specs.Each.{eachBytes}
 use Rattle.layout.specs.Batches.{kindOf, kindByte, keyOf, valueOf, requestAt, requestBytes, requestIn, batchAt, batchBytes, kindPlain, requestPlain, plainAt, batchPlain}

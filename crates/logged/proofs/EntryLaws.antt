@@ -28,7 +28,7 @@ use Rattle.logged.proofs.RefusedLaws.{logged-logged}
 
 module _ (t : Table) (at : Place) (status : LogStatus) (list : List ℕ) where
   -- what the entry gives back, and the list after it
-  abbrev Meets : LogOutcome → List ℕ → Type 0
+  abbrev pub Meets : LogOutcome → List ℕ → Type 0
   Meets r after = (r ≡ loggedOf t at status (length list)) × (after ≡ loggedOrder t at status list)
 
   pub entry-refused : (number : ℕ) → number ≡ loggedRefusal t at (length list) → 0 < number → (o : Outcome) → o ≡ outcomeOf t (refused number) → Meets (noneRun o) list

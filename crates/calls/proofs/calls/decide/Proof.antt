@@ -1,8 +1,4 @@
 -- `calls::calls::decide` meets its contract: one case for each handler.
-use Rattle.changes.specs.Change.{Makes}
-use Rattle.calls.specs.Calls.{handledBy}
-use Rattle.calls.specs.declared.calls.Handler.{Handler}
-use mathlib.Core.Path.{ap, sym}
 use borrow.Author.Needs.{needs}
 use Rattle.calls.proofs.calls.decide.Statement.{statement}
 use Rattle.calls.proofs.calls.decide.Tie as tie

@@ -1,7 +1,7 @@
 -- `in_place::change::apply_at` meets its contract: the table's bytes, then null slots, the slot and the keys in them, as far as the change reaches.
 use mathlib.Core.Path.{_≡_, ap, sym, _∙_}
 use mathlib.Core.List.{List}
-use Prim.Native.Nat.{ℕ, _<_, _≤_, _-_, _+_, _*_}
+use Prim.Native.Nat.{ℕ, _<_, _-_, _+_, _*_}
 use native.Mathlib.Omega.{arith}
 use lib.ListN.{getD, length}
 use Rattle.keys.specs.Columns.{refreshedBy}
@@ -9,7 +9,6 @@ use Rattle.keys.specs.declared.columns.Keys.{Keys}
 use Rattle.table.specs.Place.{indexOf}
 use Rattle.table.specs.Table.{withKeys, putAt, nullsTo, storedAt}
 use Rattle.table.proofs.SlotReads.{index-below, nulls-keys, nulls-length}
-use Rattle.changes.specs.Change.{reachOf}
 use Rattle.layout.specs.Numbers.{lay}
 use Rattle.slot_bytes.specs.Slot.{slotBytes}
 use Rattle.image.specs.Tables.{tableAt, keysBytes, tableBytes}

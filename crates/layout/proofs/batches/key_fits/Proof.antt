@@ -7,7 +7,6 @@ use lib.Dec.{eqb}
 use lib.ListN.{getD, drop}
 use lib.Seq.{drop-drop, getD-drop}
 use Rattle.deps.specs.Batches.{kindFits}
-use Rattle.deps.specs.declared.batches.Kind.{Kind}
 use Rattle.deps.specs.declared.batches.Kind.the-variants.{Other, Put, Get}
 use Rattle.layout.specs.Numbers.{wordOf, shortOf}
 use Rattle.layout.specs.Batches.{kindOf, requestAt}

@@ -1,16 +1,19 @@
 -- `logged::logged::logged` meets its contract: refused, or by what was logged.
 use denote.Ref.{now}
 use mathlib.Core.Path.{_≡_, sym, _∙_}
-use mathlib.Core.Bool.{true, false}
+use mathlib.Core.Bool.{Bool, true, false}
 use native.Mathlib.Omega.{arith}
 use lib.ListN.{length}
 use borrow.Author.Needs.{needs}
 use Rattle.deps.specs.Batches.{noOp}
-use Rattle.changes.specs.Change.{Seven}
+use Rattle.outcomes.specs.declared.outcome.Outcome.{Outcome}
+use Rattle.changes.specs.Change.{Seven, changed}
+use Rattle.changes.specs.declared.change.Change.{Change}
 use Rattle.changes.proofs.ViewLaws.{leadIn, seven-seen, lead-seen, lead-inside}
 use Rattle.logged.specs.Refusal.{loggedRefusal}
+use Rattle.logged.specs.Logged.{noneRun, replyStatus, RepliesWith}
 use Rattle.logged.proofs.RefusedLaws.{short-first, then-slot}
-use Rattle.logged.proofs.EntryLaws.{entry-refused, entry-replied, entry-committed, entry-fits, entry-row, entry-room}
+use Rattle.logged.proofs.EntryLaws.{Meets, entry-refused, entry-replied, entry-committed, entry-fits, entry-row, entry-room}
 use Rattle.logged.proofs.logged.logged.Statement.{statement}
 use Rattle.logged.proofs.logged.logged.Tie as tie
 
@@ -111,31 +114,27 @@ committed-requires c κs =
 done-requires : tie.Need-done-requires
 done-requires c κs = search needs
 
-returns-3 : tie.Need-returns-3
-returns-3 c =
-    let p = c .before in
-    let d = p .before in
-    let e = d .before in
-    let i = e .before .before in
+-- a change that a reply was decided to be, made of the table
+replied-so : (i : tie.Else2) → let v = i .before .before .before in let a = v .before .before .before .args in
+    (accepting : Bool) → a .status ≡ replyStatus accepting → (c : Change) (o : Outcome) → RepliesWith accepting (v .look-plain .result) (a .at) c → o ≡ changed (a .table) (a .at) c
+    → Meets (a .table) (a .at) (a .status) (now (a .order)) (noneRun o) (now (a .order))
+replied-so i accepting told c o r e =
     let v = i .before .before .before in
     let s = v .before .before .before in
     let a = s .args in
-    rw (c .none-run3 .ensures)
-    (entry-replied (a .table) (a .at) (a .status) (now (a .order)) (none i) false (e .enum-told .given .1) (p .apply .result)
-    (p .apply .ensures ∙ d .replied .ensures .same (a .table) (lens s) (sym (v .look-plain .ensures))))
+    entry-replied (a .table) (a .at) (a .status) (now (a .order)) (none i) accepting told o (e ∙ r .same (a .table) (lens s) (sym (v .look-plain .ensures)))
+
+returns-3 : tie.Need-returns-3
+returns-3 c =
+    let p = c .before in
+    let e = p .before .before in
+    rw (c .none-run3 .ensures) (replied-so (e .before .before) false (e .enum-told .given .1) _ _ (p .before .replied .ensures) (p .apply .ensures))
 
 returns-4 : tie.Need-returns-4
 returns-4 c =
     let p = c .before in
-    let d = p .before in
-    let e = d .before in
-    let i = e .before .before in
-    let v = i .before .before .before in
-    let s = v .before .before .before in
-    let a = s .args in
-    rw (c .none-run4 .ensures)
-    (entry-replied (a .table) (a .at) (a .status) (now (a .order)) (none i) true (e .enum-told2 .given .1) (p .apply2 .result)
-    (p .apply2 .ensures ∙ d .replied2 .ensures .same (a .table) (lens s) (sym (v .look-plain .ensures))))
+    let e = p .before .before in
+    rw (c .none-run4 .ensures) (replied-so (e .before .before) true (e .enum-told2 .given .1) _ _ (p .before .replied2 .ensures) (p .apply2 .ensures))
 
 same-length : tie.Need-same-length
 same-length c = search needs

@@ -1,7 +1,6 @@
 -- `slot_bytes::slot::clear_slot` meets its contract: a plain slot's bytes are those that would be written.
 use mathlib.Core.Path.{_≡_, ap, sym, _∙_}
 use mathlib.Core.Bool.{true}
-use mathlib.Core.List.{List}
 use native.Mathlib.Omega.{arith}
 use lib.ListN.{drop}
 use lib.Seq.{drop-drop}

@@ -1,9 +1,7 @@
 -- `changes::change::Extent::table` meets its contract: one case for each extent.
-use Rattle.slots.specs.declared.slot.Slot.{Slot}
 use Rattle.table.specs.Table.{putAt, storedAt}
-use Rattle.table.specs.declared.place.Place.{Place}
 use Rattle.table.specs.declared.table.Table.{Table}
-use Rattle.changes.specs.Change.{Inside, changedTable}
+use Rattle.changes.specs.Change.{changedTable}
 use Rattle.changes.specs.declared.change.Extent.{Extent}
 use mathlib.Core.Path.{ap, sym, _∙_}
 use borrow.Author.Needs.{needs}
