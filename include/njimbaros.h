@@ -237,8 +237,8 @@ extern "C" {
 #define NJ_STACK_EXP_PREPARE 20480
 #define NJ_STACK_LEAD 20480
 #define NJ_STACK_ATTEMPT 278528
-#define NJ_STACK_LOGGED 401408
-#define NJ_STACK_MOST 401408 /* enough for each of them */
+#define NJ_STACK_LOGGED 356352
+#define NJ_STACK_MOST 356352 /* enough for each of them */
 
 /* ---- The table ---- */
 

@@ -27,7 +27,8 @@
 //! # }
 //! ```
 //!
-//! A call needs up to 401,408 bytes of stack, which a thread of Rust's has (2 MB) unless it is asked for with less.
+//! A message needs up to 20,480 bytes of stack, opening a table 131,072, an attempt or a log event up to 356,352, which a
+//! thread of Rust's has (2 MB) unless it is asked for with less.
 
 #![deny(missing_docs, unsafe_code)]
 
