@@ -28,7 +28,7 @@ pub fn look(table: Table, at: Place, batch: Batch) -> View
     look_with(table, at, mine, highest(table, mine))
 }
 
-// For one without contents: no batch waits for nothing.
+// For one without contents: an empty batch waits for nothing.
 pub fn look_plain(table: Table, at: Place) -> View
     ensures { λ r. ⌜ r ≡ viewOf table at noOp ⌝ }
 {
