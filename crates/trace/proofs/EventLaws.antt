@@ -10,26 +10,29 @@ use Rattle.steps.specs.Calls.{callOf}
 use Rattle.steps.specs.Step.{stepOf, stepOrder}
 use Rattle.steps.proofs.RoomLaws.{slots-run}
 use Rattle.reading.specs.Held.{held}
-use Rattle.reading.specs.Events.{eventIn}
-use Rattle.reading.specs.declared.events.EventRead.{EventRead}
+use Rattle.reader.specs.Reader.{restFrom}
+use Rattle.reader.specs.Next.{nextAt}
+use Rattle.reader.specs.declared.next.Next.{Next}
 use Rattle.reading.proofs.HeldLaws.{call-back, read-held, read-held-order}
 use Rattle.lines.specs.Line.{lineText}
-use Rattle.trace.specs.Turn.{refusalText, stoppedRun, eventText, foundBy, turnOf, turnText}
+use Rattle.trace.specs.Turn.{refusalText, stoppedRun, eventText, foundBy, nextBy, turnOf, turnText}
 use Rattle.trace.specs.declared.turn.Run.{Run}
 
-module _ (s : List ℕ) (run : Run) (r : EventRead) (e : r ≡ eventIn (foundBy s run)) where
-  found-refusal : foundBy s run .cursor .refusal ≡ r .cursor .refusal
+module _ (s : List ℕ) (run : Run) (r : Next) (e : r ≡ nextBy s run) where
+  found-refusal : foundBy s run .cursor .refusal ≡ r .refusal
+  unfolding nextAt
   found-refusal = rw e
 
   -- ---- an event that cannot be read
 
-  pub turn-stopped : 0 < r .cursor .refusal → (x : Run) → x ≡ stoppedRun (length s) run (r .cursor .refusal) → x ≡ turnOf s run
-  unfolding turnOf
+  pub turn-stopped : 0 < r .refusal → (x : Run) → x ≡ stoppedRun (r .at) run (r .refusal) → x ≡ turnOf s run
+  unfolding turnOf nextAt
   turn-stopped h x f =
       let n = ne-eqb (foundBy s run .cursor .refusal) 0 (λ z. omega (arith, found-refusal)) in
-      rw (n, found-refusal) f
+      let at-end : r .at ≡ length s = rw (e, n) in
+      rw (n, found-refusal, ← at-end) f
 
-  pub text-stopped : 0 < r .cursor .refusal → refusalText run (r .cursor .refusal) ≡ turnText s run
+  pub text-stopped : 0 < r .refusal → refusalText run (r .refusal) ≡ turnText s run
   unfolding turnText
   text-stopped h =
       let n = ne-eqb (foundBy s run .cursor .refusal) 0 (λ z. omega (arith, found-refusal)) in
@@ -38,6 +41,7 @@ module _ (s : List ℕ) (run : Run) (r : EventRead) (e : r ≡ eventIn (foundBy 
   -- ---- one that can
 
   call-is : callOf (r .event) ≡ held (foundBy s run .call)
+  unfolding nextAt
   call-is = rw e (call-back (held (foundBy s run .call)))
 
   module _ (did : LogOutcome) (order : List ℕ) (d : did ≡ stepOf (run .table) (callOf (r .event)) 224)
@@ -60,14 +64,17 @@ module _ (s : List ℕ) (run : Run) (r : EventRead) (e : r ≡ eventIn (foundBy 
     pub line-is : lineText (run .events + 1) (did .outcome .answer) (take (did .ran) order) ≡ eventText run (foundBy s run)
     line-is = rw (order-is, did-is)
 
-    module _ (h : r .cursor .refusal ≡ 0) where
+    module _ (h : r .refusal ≡ 0) where
       pub text-went : lineText (run .events + 1) (did .outcome .answer) (take (did .ran) order) ≡ turnText s run
       unfolding turnText
       text-went = rw (eq-eqb (foundBy s run .cursor .refusal) 0 (found-refusal ∙ h)) line-is
 
       pub turn-went : (end : ℕ) → end ≡ run .end + length (lineText (run .events + 1) (did .outcome .answer) (take (did .ran) order))
-          → record { table = did .outcome .table; at = r .cursor .at; events = run .events + 1; end = end } ≡ turnOf s run
-      unfolding turnOf
+          → record { table = did .outcome .table; at = r .at; rest = r .rest; events = run .events + 1; end = end } ≡ turnOf s run
+      unfolding turnOf nextAt
       turn-went end f =
           let g : end ≡ run .end + length (eventText run (foundBy s run)) = f ∙ ap (λ (l : List ℕ). run .end + length l) line-is in
-          rw (eq-eqb (foundBy s run .cursor .refusal) 0 (found-refusal ∙ h), g, did-is, e)
+          let z = eq-eqb (foundBy s run .cursor .refusal) 0 (found-refusal ∙ h) in
+          let at : r .at ≡ foundBy s run .cursor .at = rw (e, z) in
+          let rest : r .rest ≡ restFrom s (foundBy s run .cursor .at) = rw (e, z) in
+          rw (z, g, did-is, at, rest)

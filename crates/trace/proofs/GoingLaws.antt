@@ -40,7 +40,7 @@ turn-room s run = go (goesOn (foundBy s run .cursor))
     go false = omega (arith, refusal-room run (foundBy s run .cursor .refusal))
 
 module _ (s : List ℕ) (bytes : Bytes s) (room : ℕ) (run : Run) (w : Going s room run) (h : run .at < length s) where
-  goes-on : foundBy s run .cursor .refusal ≡ 0 → Going s room (wentOn run (foundBy s run))
+  goes-on : foundBy s run .cursor .refusal ≡ 0 → Going s room (wentOn s run (foundBy s run))
   goes-on z =
       let t = run .table in
       let k = foundBy s run .call in
@@ -57,6 +57,7 @@ module _ (s : List ℕ) (bytes : Bytes s) (room : ℕ) (run : Run) (w : Going s 
         rows = sized .rows;
         columns = sized .columns;
         fits = step-keeps t k (record { rows = w .rows; columns = w .columns }) (w .fits);
+        rest = refl;
         counted = omega arith;
         bars = omega arith;
         line = λ l. omega arith;
@@ -71,6 +72,7 @@ module _ (s : List ℕ) (bytes : Bytes s) (room : ℕ) (run : Run) (w : Going s 
         rows = w .rows;
         columns = w .columns;
         fits = w .fits;
+        rest = omega arith;
         counted = omega arith;
         bars = omega arith;
         line = λ l. absurd (omega arith);
@@ -81,12 +83,12 @@ module _ (s : List ℕ) (bytes : Bytes s) (room : ℕ) (run : Run) (w : Going s 
   going-turn = go (goesOn (foundBy s run .cursor)) refl
     where
       go : (b : Bool) → goesOn (foundBy s run .cursor) ≡ b
-          → Going s room (cond b (wentOn run (foundBy s run)) (stoppedRun (length s) run (foundBy s run .cursor .refusal)))
+          → Going s room (cond b (wentOn s run (foundBy s run)) (stoppedRun (length s) run (foundBy s run .cursor .refusal)))
       go true e = goes-on (eqb-true (foundBy s run .cursor .refusal) 0 e)
       go false e = stops (foundBy s run .cursor .refusal)
 
   at-or : (b : Bool) → goesOn (foundBy s run .cursor) ≡ b
-      → run .at < cond b (wentOn run (foundBy s run)) (stoppedRun (length s) run (foundBy s run .cursor .refusal)) .at
+      → run .at < cond b (wentOn s run (foundBy s run)) (stoppedRun (length s) run (foundBy s run .cursor .refusal)) .at
   at-or true e =
       let within = table-fits-each (run .table) (w .fits) .config-fits in
       omega (arith, event-takes s bytes (run .table .config .n) (within .seven) (record { at = run .at; refusal = 0 }) (eqb-true (foundBy s run .cursor .refusal) 0 e) .0)

@@ -1,5 +1,5 @@
 -- A run as a whole: that it can begin, and what each return says.
-use mathlib.Core.Path.{_≡_, ap, _∙_}
+use mathlib.Core.Path.{_≡_, refl, ap, _∙_}
 use mathlib.Core.List.{List}
 use mathlib.Core.Bool.{true, false}
 use Prim.Native.Nat.{ℕ, _+_, _-_, _<_, _≤_}
@@ -17,6 +17,7 @@ use Rattle.steps.proofs.KeepLaws.{empty-sized}
 use Rattle.steps.proofs.RoomLaws.{unrun-most}
 use Rattle.reading.specs.Events.{headerOf}
 use Rattle.reading.specs.declared.events.HeaderRead.{HeaderRead}
+use Rattle.reader.specs.Reader.{restFrom}
 use Rattle.lines.specs.Bars.{barsText}
 use Rattle.trace.specs.Trace.{Trace, Played, refused, openedTrace, traceOf, textOf, playedFrom, saidText}
 use Rattle.trace.specs.Turn.{leftOf, leftText, Going, Ended}
@@ -26,11 +27,11 @@ use Rattle.trace.specs.declared.run.Ran.{Ran}
 
 -- ---- the events
 
-abbrev pub begunAt : Config → ℕ → Run
-begunAt config at = record { table = emptyTable config; at = at; events = 0; end = 0 }
+abbrev pub begunAt : List ℕ → Config → ℕ → Run
+begunAt s config at = record { table = emptyTable config; at = at; rest = restFrom s at; events = 0; end = 0 }
 
 module _ (s : List ℕ) (config : Config) (at : ℕ) where
-  pub can-begin : (room : ℕ) → configFits config ≡ true → length s ≤ 65536 → textRoom ≤ room → Going s room (begunAt config at)
+  pub can-begin : (room : ℕ) → configFits config ≡ true → length s ≤ 65536 → textRoom ≤ room → Going s room (begunAt s config at)
   can-begin room h l m =
       let sized = empty-sized config in
       let waits = unrun-most (emptyTable config) in
@@ -38,24 +39,25 @@ module _ (s : List ℕ) (config : Config) (at : ℕ) where
         rows = sized .rows;
         columns = sized .columns;
         fits = empty-within config h;
+        rest = refl;
         counted = omega arith;
         bars = omega arith;
         line = λ _. omega arith;
       }
 
-  all-left : leftOf s (begunAt config at) ≡ playedFrom (length s) s (emptyTable config) at
+  all-left : leftOf s (begunAt s config at) ≡ playedFrom (length s) s (emptyTable config) at
   all-left = let e : length s - 0 ≡ length s = omega arith in rw e
 
-  module _ (room : ℕ) (run : Run) (w : Ended s (begunAt config at) room run) where
+  module _ (room : ℕ) (run : Run) (w : Ended s (begunAt s config at) room run) where
     bars-are : barsText (run .table) ≡ barsText (playedFrom (length s) s (emptyTable config) at .table)
     bars-are = ap barsText (w .table ∙ ap (λ (p : Played). p .table) all-left)
 
-    text-is : leftText s (begunAt config at) ≡ saidText 1 (playedFrom (length s) s (emptyTable config) at .said)
+    text-is : leftText s (begunAt s config at) ≡ saidText 1 (playedFrom (length s) s (emptyTable config) at .said)
     text-is = ap (λ (p : Played). saidText 1 (p .said)) all-left
 
-    pub events-list : (list : List ℕ) → sets (sets list 0 (leftText s (begunAt config at))) (run .end) (barsText (run .table)) ≡ sets list 0 (textOf (openedTrace s config at))
+    pub events-list : (list : List ℕ) → sets (sets list 0 (leftText s (begunAt s config at))) (run .end) (barsText (run .table)) ≡ sets list 0 (textOf (openedTrace s config at))
     events-list list =
-        rw (w .end, sets-append list 0 (leftText s (begunAt config at)) (barsText (run .table)), bars-are, text-is)
+        rw (w .end, sets-append list 0 (leftText s (begunAt s config at)) (barsText (run .table)), bars-are, text-is)
 
     pub events-ran : (end : ℕ) → end ≡ run .end + length (barsText (run .table)) → ran 100 (run .table) end ≡ ranBy (openedTrace s config at)
     events-ran end e =

@@ -38,7 +38,7 @@ module _ (many : ℕ) (s : List ℕ) (t : Table) (at : ℕ) (h : at < length s) 
 -- ---- one event
 
 abbrev goesOr : Bool → List ℕ → Run → Run
-goesOr b s run = cond b (wentOn run (foundBy s run)) (stoppedRun (length s) run (foundBy s run .cursor .refusal))
+goesOr b s run = cond b (wentOn s run (foundBy s run)) (stoppedRun (length s) run (foundBy s run .cursor .refusal))
 
 abbrev textOr : Bool → List ℕ → Run → List ℕ
 textOr b s run = cond b (eventText run (foundBy s run)) (refusalText run (foundBy s run .cursor .refusal))
@@ -59,7 +59,7 @@ module _ (s : List ℕ) (run : Run) (h : run .at < length s) (k : run .events < 
   text-or : (b : Bool) → saidText (run .events + 1) (leftOr b s run .said) ≡ textOr b s run ++ leftText s (goesOr b s run)
   unfolding saidText
   text-or true =
-      ap (λ (number : ℕ). eventText run (foundBy s run) ++ saidText number (leftOf s (wentOn run (foundBy s run)) .said)) (sym (add-one (run .events + 1)))
+      ap (λ (number : ℕ). eventText run (foundBy s run) ++ saidText number (leftOf s (wentOn s run (foundBy s run)) .said)) (sym (add-one (run .events + 1)))
   text-or false = rw (at-end (length s - (run .events + 1)) s (run .table) (length s) (omega arith))
 
   table-or : (b : Bool) → leftOr b s run .table ≡ leftOf s (goesOr b s run) .table

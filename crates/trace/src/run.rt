@@ -15,6 +15,7 @@ use base::config::Config;
 use base::refusals;
 use lines::bars::put_bars;
 use lines::line::put_line;
+use reader::places::rest_from;
 use reading::events::header;
 use table::table::Table;
 
@@ -77,6 +78,7 @@ fn events(trace: &[u8], config: Config, at: usize, text: &mut [u8]) -> Ran
     let begun = Run {
         table: table,
         at: at,
+        rest: rest_from(trace, at),
         events: 0,
         end: 0,
     };
@@ -98,7 +100,7 @@ fn turns(trace: &[u8], begun: Run, text: &mut [u8]) -> Run
     ensures list { λ r. ⌜ now (text .exit) ≡ sets (now (text .entry)) (begun .end) (leftText (now (trace .entry)) begun) ⌝ }
 {
     let mut run = begun;
-    while run.at < trace.len() {
+    while 0 < run.rest {
         run = turn(trace, run, text);
     }
     run

@@ -7,16 +7,17 @@ ghost use lib.Seq.{sets};
 ghost use Rattle.bounds.specs.Bounds.{tableFits};
 ghost use Rattle.trace.specs.Turn.{turnOf, turnText, stoppedRun, refusalText};
 use base::answer::Answer;
-use groups::cursor::Cursor;
 use lines::line::put_line;
-use reading::events::event;
+use reader::next::next_at;
 use steps::step::step;
 use table::table::Table;
 
-// How far a run has come: its table, the place of the next event, how many there were, and the end of their text.
+// How far a run has come: its table, the place of the next event, how many bytes there are from there on, how many events there
+// were, and the end of their text.
 pub struct Run {
     pub table: Table,
     pub at: usize,
+    pub rest: usize,
     pub events: usize,
     pub end: usize,
 }
@@ -31,17 +32,12 @@ pub(crate) fn turn(trace: &[u8], run: Run, text: &mut [u8]) -> Run
 {
     let table = run.table;
     let config = table.config;
-    let cursor = Cursor {
-        at: run.at,
-        refusal: 0,
-    };
-    let read = event(trace, cursor, config.n);
-    let next = read.cursor;
+    let next = next_at(trace, run.at, config.n);
     if 0 < next.refusal {
-        return stop(trace, run, next.refusal, text);
+        return stop(run, next.at, next.refusal, text);
     }
     let mut order = [0u8; 224];
-    let asked = read.event;
+    let asked = next.event;
     let did = step(table, asked, &mut order);
     let outcome = did.outcome;
     let answer = outcome.answer;
@@ -51,16 +47,17 @@ pub(crate) fn turn(trace: &[u8], run: Run, text: &mut [u8]) -> Run
     Run {
         table: after,
         at: next.at,
+        rest: next.rest,
         events: number,
         end: end,
     }
 }
 
-// The line of an event that cannot be read; the rest of the trace is not read.
-fn stop(trace: &[u8], run: Run, refusal: u64, text: &mut [u8]) -> Run
+// The line of an event that cannot be read, and nothing is left. at is the trace's end.
+fn stop(run: Run, at: usize, refusal: u64, text: &mut [u8]) -> Run
     requires { ⌜ run .events < 65536 ⌝ }
     requires { ⌜ run .end + 50 ≤ length (now text) ⌝ }
-    ensures result { λ r. ⌜ r ≡ stoppedRun (length (now (trace .entry))) run refusal ⌝ }
+    ensures result { λ r. ⌜ r ≡ stoppedRun at run refusal ⌝ }
     ensures list { λ r. ⌜ now (text .exit) ≡ sets (now (text .entry)) (run .end) (refusalText run refusal) ⌝ }
 {
     let table = run.table;
@@ -70,7 +67,8 @@ fn stop(trace: &[u8], run: Run, refusal: u64, text: &mut [u8]) -> Run
     let end = put_line(text, run.end, number as u64, answer, &none, 0);
     Run {
         table: table,
-        at: trace.len(),
+        at: at,
+        rest: 0,
         events: number,
         end: end,
     }

@@ -28,16 +28,18 @@ loop-holds c = (c .before .before .pre .1, refl, refl, refl, refl)
 
 turn-requires : tie.Need-turn-requires Inv-loop μ-loop
 turn-requires c κs =
-    let i = c .before .before .before .loop .inv .0 in
-    let s = c .before .before .before .before .before .before in
-    (i .fits, (omega (arith, i .counted, s .pre .0, c .before .if1 .taken), omega (arith, i .line (c .before .if1 .taken))))
+    let l = c .before .before .before .loop in
+    let i = l .inv .0 in
+    let w = c .before .before .before .before .before .before in
+    let h : l .run .at < length (now (w .args .trace)) = omega (arith, i .rest, c .before .if1 .taken) in
+    (i .fits, (omega (arith, i .counted, w .pre .0, h), omega (arith, i .line h)))
 
 loop-less : tie.Need-loop-less Inv-loop μ-loop
 loop-less c =
     let r = c .before .before .turn in
-    let h = c .before .before .before .before .if1 .taken in
     let l = c .before .before .before .before .before .before .loop in
     let s = now (c .before .before .before .before .before .before .before .before .before .args .trace) in
+    let h : l .run .at < length s = omega (arith, l .inv .0 .rest, c .before .before .before .before .if1 .taken) in
     let bytes : Bytes s = λ i. omega (arith, c .before .before .before .before .before .before .before .before .shared-slice-known .given i) in
     let rises = at-rises s bytes (length (l .text)) (l .run) (l .inv .0) h in
     omega (arith, rises, h, ap (λ (x : Run). x .at) (r .ensures .0))
@@ -45,9 +47,9 @@ loop-less c =
 loop-again : tie.Need-loop-again Inv-loop μ-loop
 loop-again c =
     let r = c .before .before .turn in
-    let h = c .before .before .before .before .if1 .taken in
     let l = c .before .before .before .before .before .before .loop in
     let s = now (c .before .before .before .before .before .before .before .before .before .args .trace) in
+    let h : l .run .at < length s = omega (arith, l .inv .0 .rest, c .before .before .before .before .if1 .taken) in
     let bytes : Bytes s = λ i. omega (arith, c .before .before .before .before .before .before .before .before .shared-slice-known .given i) in
     let k : l .run .events < length s = omega (arith, l .inv .0 .counted, h) in
     let e = r .ensures .0 in
@@ -67,7 +69,7 @@ returns : tie.Need-returns Inv-loop μ-loop
 returns c =
     let l = c .before .before .loop in
     let s = now (c .before .before .before .before .before .args .trace) in
-    let h : length s ≤ l .run .at = omega (arith, c .if1 .left) in
+    let h : length s ≤ l .run .at = omega (arith, l .inv .0 .rest, c .if1 .left) in
     let none = text-ended s (l .run) h in (
       record {
         table = sym (table-ended s (l .run) h) ∙ l .inv .4;

@@ -12,7 +12,7 @@ slice-aggregate-put-line c = search needs
 
 put-line-requires : tie.Need-put-line-requires
 put-line-requires c κs =
-    let a = c .before .before .before .before .before .before .args in
+    let a = c .before .before .before .before .before .args in
     (omega (arith, refusal-room (a .run) (a .refusal)), omega arith)
 
 same-length : tie.Need-same-length
