@@ -96,7 +96,7 @@ module _ {M : Type 1} (𝓤 : URA M) (H : Heap 𝓤) (A : Atoms 𝓤) (W : Given
         move ! (0 ∷ 12 ∷ []) $ use2 W (raw (EventAt 𝓤 H A mem run .pre to)) goes $
         calls-told ! fm (EventAt 𝓤 H A mem run) known to E.the-row (tokens 𝓤 κ q) (λ r. r ≡ eventAt n (now (d .trace)) (d .at)) _ (lasts callee.ended (κ, tt) (d .trace, (d .at, (n, tt)))) (λ u. id⊢ 𝓤 _)
         (and-then ! (load ! (from ! (stop !)) (look ! 4 refl)) (and-then ! (load ! (from ! (stop !)) (look ! 2 refl)) (and-then ! (load ! (from ! (stop !)) (look ! 6 refl)) (no-more !)))) (λ u r e has.
-        -- [the result; the token; what the struct owns; _4; …; _3; …; _2; …; _1; …; room for _0; …]
+        -- the result, the token and what the reader owns stand before the cells, of which that of _0 is the last
         land ! (from ! (stop !)) (init ! 11 refl (LL.lawful E.the-type E′.the-laws 𝓤 H A W .typed r _ has .0)) $
         returns ! (look ! 11 refl) $ forget ! 3 refl $ forget ! 5 refl $ forget ! 7 refl $ forget ! 9 refl $ forget ! 11 refl $
         move ! (11 ∷ 12 ∷ []) $ free1 ! $ move ! (9 ∷ 10 ∷ []) $ free1 ! $ move ! (7 ∷ 8 ∷ []) $ free1 ! $ move ! (5 ∷ 6 ∷ []) $ free1 ! $ move ! (3 ∷ 4 ∷ []) $ free1 ! $ free0 ! $ by ! (exits u r e)))))))

@@ -84,7 +84,7 @@ module _ {M : Type 1} (𝓤 : URA M) (H : Heap 𝓤) (A : Atoms 𝓤) (W : Given
         move ! (0 ∷ 10 ∷ []) $ use2 W (raw (RestFrom 𝓤 H A mem run .pre to)) (lent 𝓤 H A W κ q (d .trace) usize (uint-makes 𝓤 H A W w64) (d .at) _ (refl, at-fits κ d is)) $
         calls-told ! fm (RestFrom 𝓤 H A mem run) known to usize (tokens 𝓤 κ q) (λ r. r ≡ restFrom (now (d .trace)) (d .at)) _ (lasts callee.ended (κ, tt) (d .trace, (d .at, tt))) (λ u. id⊢ 𝓤 _)
         (and-then ! (load ! (from ! (stop !)) (look ! 4 refl)) (and-then ! (load ! (from ! (stop !)) (look ! 2 refl)) (no-more !))) (λ u r e has.
-        -- [the result; the token; what the struct owns; _3; …; _2; …; _1; …; room for _0; …]
+        -- the result, the token and what the reader owns stand before the cells, of which that of _0 is the last
         land ! (from ! (stop !)) (init ! 9 refl (uint-lawful 𝓤 H A W w64 .typed r _ has .0)) $
         returns ! (look ! 9 refl) $ forget ! 3 refl $ forget ! 5 refl $ forget ! 7 refl $ forget ! 9 refl $
         move ! (9 ∷ 10 ∷ []) $ free1 ! $ move ! (7 ∷ 8 ∷ []) $ free1 ! $ move ! (5 ∷ 6 ∷ []) $ free1 ! $ move ! (3 ∷ 4 ∷ []) $ free1 ! $ free0 ! $ by ! (exits u r e))))))
