@@ -1,12 +1,12 @@
 -- The ways of `visit` and `rows`: what is added is in every shut set, and what it depends on is added.
-use mathlib.Core.Path.{_≡_, subst}
+use mathlib.Core.Path.{_≡_, refl, subst, _∙_}
 use mathlib.Core.List.{List}
 use mathlib.Core.Logic.{_⊎_, inl, inr, ⊎-elim}
 use Prim.Native.Nat.{ℕ, zero, suc, _+_, _*_, _/_, _%_, _-_, _≤_, _<_}
 use native.Mathlib.Nat.{not-suc-le-zero}
 use native.Mathlib.Decide.{ℕ-discrete, decLt}
 use native.Mathlib.Omega.{arith}
-use lib.ListN.{length, getD, set}
+use lib.ListN.{length, getD, set, length-set}
 use lib.Seq.{getD-set-same, getD-set-other}
 use borrow.Author.Count.{below-more}
 use Rattle.leads.specs.Frontier.{In}
@@ -66,6 +66,7 @@ module _ (F : List ℕ) (r : ℕ) (lt : r < length F) where
 
 same : (deps : List ℕ) (r k : ℕ) (F : List ℕ) → Grown deps r k F F
 same deps r k F = record {
+  rows = refl;
   kept = λ q. omega arith;
   least = λ C s w h. w;
   shut = λ j h. inl h;
@@ -105,7 +106,13 @@ module _ (deps : List ℕ) (r k : ℕ) (F G T : List ℕ) (lt : r < length F) (s
 
   pub visit-more : Visited deps r k F T
   visit-more = record {
-    grown = record { kept = λ q. omega (arith, put-more F r lt q, p .grown .kept q, v .grown .kept q); least = mark-least; shut = mark-shut };
+    grown =
+        record {
+          rows = v .grown .rows ∙ (p .grown .rows ∙ simp length-set);
+          kept = λ q. omega (arith, put-more F r lt q, p .grown .kept q, v .grown .kept q);
+          least = mark-least;
+          shut = mark-shut;
+        };
     done = v .done;
   }
 
@@ -124,7 +131,13 @@ module _ (deps : List ℕ) (i q : ℕ) (F G T : List ℕ) (q<7 : q < 7) (p : Pas
 
   pub to-more : PassedTo deps i (q + 1) F T
   to-more = record {
-    grown = record { kept = λ x. omega (arith, v .grown .kept x, p .grown .kept x); least = more-least; shut = shut-then deps _ _ q _ F G T (p .grown) (v .grown) };
+    grown =
+        record {
+          rows = v .grown .rows ∙ p .grown .rows;
+          kept = λ x. omega (arith, v .grown .kept x, p .grown .kept x);
+          least = more-least;
+          shut = shut-then deps _ _ q _ F G T (p .grown) (v .grown);
+        };
     done = below-more (λ x. getD deps (7 * i + x) 0 ≤ getD T x 0) q (λ x lt. omega (arith, p .done x lt, v .grown .kept x)) (v .done);
   }
 

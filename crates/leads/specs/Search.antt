@@ -1,8 +1,9 @@
 -- What the search promises: from some prefixes of the rows to larger ones.
+use mathlib.Core.Path.{_≡_}
 use mathlib.Core.List.{List}
 use mathlib.Core.Logic.{_⊎_}
 use Prim.Native.Nat.{ℕ, suc, _+_, _*_, _/_, _%_, _≤_, _<_}
-use lib.ListN.{getD}
+use lib.ListN.{length, getD}
 use Rattle.leads.specs.Depends.{numberIn}
 use Rattle.leads.specs.Frontier.{In, frontier}
 
@@ -18,8 +19,9 @@ ShutAt deps F j = (q : ℕ) → q < 7 → numberIn deps j q ≤ getD F q 0
 unfoldable pub Shut : List ℕ → List ℕ → Type 0
 Shut deps F = (j : ℕ) → In F j → ShutAt deps F j
 
--- from F to G: nothing is lost; G is in every shut set that F and the first k slots of row r are in; what a new slot depends on is in G
+-- from F to G: as many rows; nothing is lost; G is in every shut set that F and the first k slots of row r are in; what a new slot depends on is in G
 pub record Grown (deps : List ℕ) (r k : ℕ) (F G : List ℕ) : Type 0 where
+  pub rows : length G ≡ length F
   pub kept : Within F G
   pub least : (C : List ℕ) → Shut deps C → Within F C → k ≤ getD C r 0 → Within G C
   pub shut : (j : ℕ) → In G j → In F j ⊎ ShutAt deps G j

@@ -1,5 +1,6 @@
 use denote.Ref.{now}
 use mir.Syntax.{w8}
+use mathlib.Core.Path.{_≡_, _∙_}
 use native.Mathlib.Omega.{arith}
 use borrow.Author.Needs.{needs}
 use Rattle.base.proofs.Lists.{bytes-length}
@@ -10,14 +11,20 @@ use Rattle.leads.proofs.search.reach.Tie as tie
 add-visit : tie.Need-add-visit
 add-visit c = search needs
 
+cast-visit : tie.Need-cast-visit
+cast-visit c = search needs
+
 visit-requires : tie.Need-visit-requires
-visit-requires c κs = search needs
+visit-requires c κs =
+    let a = c .before .before in
+    (a .pre .0, (bytes-length w8 7 (a .args .from .cols) _ (a .good .1 .0 .1 .1 .0), (omega arith, omega arith)))
 
 returns : tie.Need-returns
 returns c =
-    let a = c .before in
-    let len = bytes-length w8 7 (c .visit .result .cols) _ (c .visit .ok .1 .1 .0) in
-    search-is (now (a .args .deps)) (a .pre .0) (a .args .row) (a .args .col) (a .args .from .cols) (c .visit .result .cols) (omega arith) (omega arith) len (a .pre .1 .1 .1) (c .visit .ensures)
+    let a = c .before .before .before in
+    let seen = a .args .from .cols in
+    let len = c .visit .ensures .grown .rows ∙ bytes-length w8 7 seen _ (a .good .1 .0 .1 .1 .0) in
+    search-is (now (a .args .deps)) (a .pre .0) (a .args .row) (a .args .col) seen (c .visit .last .1 .0) (omega arith) (omega arith) len (a .pre .1 .1 .1) (c .visit .ensures)
 
 pub reach-spec : {M : Type 1} → statement M
-reach-spec = tie.close (tie.spec add-visit visit-requires returns)
+reach-spec = tie.close (tie.spec add-visit cast-visit visit-requires returns)
