@@ -59,9 +59,13 @@ past heads F row = max (colOf heads row) (getD F row 0)
 
 -- ---- which is ready
 
+-- the slot of a row and column is in the frontier of a head
+abbrev pub LeadsTo : Head → ℕ → ℕ → Type 0
+LeadsTo head row col = col < getD (head .reach .cols) row 0
+
 -- another row's head is in the frontier of this row's
 abbrev pub Under : List Head → ℕ → ℕ → Type 0
-Under heads row other = colOf heads other < getD (reachOf heads row) other 0
+Under heads row other = LeadsTo (getD heads row blankHead) other (colOf heads other)
 
 -- the row has a head, and each head in its frontier has it in its own
 pub record ReadyRow (heads : List Head) (row : ℕ) : Type 0 where

@@ -1,6 +1,7 @@
 // Which of the heads is ready.
 ghost use Prim.Native.Nat.{_<_};
-ghost use Rattle.order.specs.Heads.{Under, ReadyRow, NextRow, Decides};
+ghost use Rattle.order.specs.Heads.{LeadsTo, ReadyRow, NextRow, Decides};
+use super::heads::Head;
 use super::heads::Heads;
 
 // The lowest row whose head is ready, 7 for none.
@@ -22,13 +23,14 @@ fn is_ready(heads: Heads, row: usize) -> bool
     requires { ⌜ row < 7 ⌝ }
     ensures { λ r. ⌜ Decides (ReadyRow (heads .rows) row) r ⌝ }
 {
-    let head = heads.rows[row];
-    if 32 <= head.col {
+    let mine = heads.rows[row];
+    if 32 <= mine.col {
         return false;
     }
     let mut other: usize = 0;
     while other < 7 {
-        if !lets(heads, row, other) {
+        let theirs = heads.rows[other];
+        if !lets(theirs, other, mine, row) {
             return false;
         }
         other += 1;
@@ -37,16 +39,14 @@ fn is_ready(heads: Heads, row: usize) -> bool
 }
 
 // Whether another row's head lets this row's go first: where this one leads to it, it leads back.
-fn lets(heads: Heads, row: usize, other: usize) -> bool
+fn lets(theirs: Head, other: usize, mine: Head, row: usize) -> bool
     requires { ⌜ row < 7 ⌝ }
     requires { ⌜ other < 7 ⌝ }
-    ensures { λ r. ⌜ Decides (Under (heads .rows) row other → Under (heads .rows) other row) r ⌝ }
+    ensures { λ r. ⌜ Decides (LeadsTo mine other (theirs .col) → LeadsTo theirs row (mine .col)) r ⌝ }
 {
-    let mine = heads.rows[row];
-    let others = heads.rows[other];
     let reach = mine.reach;
-    let back = others.reach;
-    if others.col < reach.cols[other] {
+    let back = theirs.reach;
+    if theirs.col < reach.cols[other] {
         mine.col < back.cols[row]
     } else {
         true

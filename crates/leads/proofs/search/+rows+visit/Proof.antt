@@ -1,14 +1,13 @@
+-- `leads::search::visit` and `rows`, which call each other, meet their contracts: each visit adds a slot, so that what is not seen falls.
 use denote.Ref.{now}
-use mir.Syntax.{w8}
 use mathlib.Core.Path.{_≡_, sym, subst, _∙_}
 use mathlib.Core.List.{List}
 use mathlib.Core.Logic.{⊎-elim}
+use Prim.Native.Nat.{ℕ, _≤_, _<_, _-_, _+_, _*_}
 use native.Mathlib.Omega.{arith}
 use lib.ListN.{length, getD, set, length-set}
-use Rattle.base.proofs.Lists.{bytes-length}
 use Rattle.leads.specs.Depends.{Valid}
 use Rattle.leads.proofs.SearchLaws.{room, room-le, put-room, visit-in, visit-more, PassedTo, to-none, to-more, to-all}
-use Prim.Native.Nat.{ℕ, _≤_, _<_, _-_, _+_, _*_}
 use borrow.Fn.Kinds.{In}
 use borrow.Fn.PlainCycle.{Measures, is, falls, and}
 use Rattle.leads.proofs.search.rows.Reads as rows

@@ -1,6 +1,7 @@
+-- `leads::search::reach` meets its contract: what is seen in the end is the least set that the search can end with.
 use denote.Ref.{now}
 use mir.Syntax.{w8}
-use mathlib.Core.Path.{_≡_, _∙_}
+use mathlib.Core.Path.{_∙_}
 use native.Mathlib.Omega.{arith}
 use borrow.Author.Needs.{needs}
 use Rattle.base.proofs.Lists.{bytes-length}

@@ -4,18 +4,6 @@ use borrow.Author.Needs.{needs}
 use Rattle.order.proofs.ready.lets.Statement.{statement}
 use Rattle.order.proofs.ready.lets.Tie as tie
 
-mul-mine : tie.Need-mul-mine
-mul-mine c = search needs
-
-element-copy-out-mine : tie.Need-element-copy-out-mine
-element-copy-out-mine c = search needs
-
-mul-others : tie.Need-mul-others
-mul-others c = search needs
-
-element-copy-out-others : tie.Need-element-copy-out-others
-element-copy-out-others c = search needs
-
 element-copy-out-if1 : tie.Need-element-copy-out-if1
 element-copy-out-if1 c = search needs
 
@@ -29,14 +17,4 @@ returns-2 : tie.Need-returns-2
 returns-2 c = decides-off _ _ _ _ (c .if1 .left)
 
 pub lets-spec : {M : Type 1} → statement M
-lets-spec =
-    tie.close
-    (tie.spec
-    mul-mine
-    element-copy-out-mine
-    mul-others
-    element-copy-out-others
-    element-copy-out-if1
-    element-copy-out-result
-    returns
-    returns-2)
+lets-spec = tie.close (tie.spec element-copy-out-if1 element-copy-out-result returns returns-2)
