@@ -14,7 +14,7 @@ use table::place::Place;
 use table::table::Table;
 
 // What an attempt answers, the table after it, and how many slots have run.
-#[derive(Drop)]
+#[derive(Clone, Copy)]
 pub struct Attempted {
     pub answer: Answer,
     pub table: Table,

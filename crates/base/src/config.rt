@@ -2,7 +2,7 @@
 ghost use Rattle.std.specs.Prelude.{◌≡◌};
 ghost use Rattle.base.specs.Config.{config_fits};
 
-#[derive(Drop)]
+#[derive(Clone, Copy)]
 pub struct Config {
     pub n: usize,
     pub own: usize,

@@ -1,4 +1,6 @@
 // The words that all layers share.
+#![tactic(auto)]
+
 pub mod refusals; // refusals.rt: their numbers
 pub mod answer; // answer.rt: what a call answers
 pub mod config; // config.rt: population, own number, quorums

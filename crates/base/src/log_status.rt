@@ -2,7 +2,7 @@
 ghost use Rattle.std.specs.Prelude.{◌≡◌};
 ghost use Rattle.base.specs.LogStatus.{is_status, status_of};
 
-#[derive(Drop)]
+#[derive(Clone, Copy)]
 pub enum LogStatus {
     PreAccepting,
     Accepting,

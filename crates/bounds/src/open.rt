@@ -8,7 +8,7 @@ use base::refusals;
 use table::table::Table;
 
 // A table that is refused has no slot, and the configuration that was: every entry refuses it again.
-#[derive(Drop)]
+#[derive(Clone, Copy)]
 pub struct Opened {
     pub answer: Answer,
     pub table: Table,

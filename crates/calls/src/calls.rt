@@ -27,7 +27,7 @@ use table::place::Place;
 // What is answered where a slice is short, or the image has another length.
 pub const SHORT: u64 = 0;
 
-#[derive(Drop)]
+#[derive(Clone, Copy)]
 pub enum Handler {
     PreAccept,
     Accept,

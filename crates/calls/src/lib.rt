@@ -1,2 +1,4 @@
 // The handlers on a table's image.
+#![tactic(auto)]
+
 pub mod calls; // calls.rt: a handler called on an image

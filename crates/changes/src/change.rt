@@ -10,7 +10,7 @@ use table::place::Place;
 use table::table::Table;
 
 // How much of the table changes: nothing; null slots up to the column; after these the slot; after that the keys.
-#[derive(Drop)]
+#[derive(Clone, Copy)]
 pub enum Extent {
     Nothing,
     Nulls,
@@ -18,7 +18,7 @@ pub enum Extent {
     Keys,
 }
 
-#[derive(Drop)]
+#[derive(Clone, Copy)]
 pub struct Change {
     pub slot: Slot,
     pub output: Output,

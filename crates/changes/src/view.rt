@@ -12,7 +12,7 @@ use slots::slot::Slot;
 use table::place::Place;
 use table::table::Table;
 
-#[derive(Drop)]
+#[derive(Clone, Copy)]
 pub struct View {
     pub slot: Slot, // at the message's place; a null slot where the table has none
     pub config: Config,

@@ -3,14 +3,14 @@ ghost use Rattle.std.specs.Prelude.{◌≡◌, [], ◌∷◌, length};
 ghost use Rattle.deps.specs.Batches.{batch_of, with_request, present, kind_fits, batch_fits, same_kind, same_request, same_batch};
 
 // A key is wider than its bound, so that one out of bounds can be held, and refused.
-#[derive(Drop)]
+#[derive(Clone, Copy)]
 pub enum Kind {
     Other,
     Put { key: u16, value: u64 },
     Get { key: u16 },
 }
 
-#[derive(Drop)]
+#[derive(Clone, Copy)]
 pub struct Request {
     pub client: u64,
     pub id: u64,
@@ -18,7 +18,7 @@ pub struct Request {
 }
 
 // The first count requests; what stands past them is nobody's.
-#[derive(Drop)]
+#[derive(Clone, Copy)]
 pub struct Batch {
     pub count: usize,
     pub reqs: [Request; 4],

@@ -3,7 +3,7 @@ ghost use Rattle.std.specs.Prelude.{◌≡◌, max, ◌<◌};
 ghost use Rattle.deps.specs.Sets.{dep_of, dep_fits, set_fits, union_of, raised_to, same_set};
 
 // Per row 0 for nothing and c + 1 for the column c: the greater number is the greater column, or the only one.
-#[derive(Drop)]
+#[derive(Clone, Copy)]
 pub struct DepSet {
     pub cols: [u8; 7],
 }

@@ -7,14 +7,14 @@ use super::numbers::number_at;
 use base::refusals;
 
 // The place of the next byte; or the refusal that was met, of which 0 is none, and then no place. After one nothing is read.
-#[derive(Drop)]
+#[derive(Clone, Copy)]
 pub struct Cursor {
     pub at: usize,
     pub refusal: u64,
 }
 
 // What was read, and what is next. With a refusal it is 0.
-#[derive(Drop)]
+#[derive(Clone, Copy)]
 pub struct Number {
     pub value: u64,
     pub cursor: Cursor,

@@ -7,13 +7,13 @@ ghost use Rattle.keys.specs.Columns.{keys_of, empty_keys, columns_of, keys_fit, 
 use deps::batches::{Batch, Kind};
 use deps::sets::DepSet;
 
-#[derive(Drop)]
+#[derive(Clone, Copy)]
 pub struct Keys {
     pub cols: [[u8; 7]; 256],
 }
 
 impl Keys {
-    // An array of arrays as a field is walked by hand: of and rows are, and all else goes through them.
+    // All else goes through of and rows, which alone name the field.
     pub fn of(cols: [[u8; 7]; 256]) -> Keys
         ensures { result ≡ keys_of cols }
     {

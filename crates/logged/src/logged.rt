@@ -14,7 +14,7 @@ use table::place::Place;
 use table::table::Table;
 
 // What a log event does, and how many slots have run.
-#[derive(Drop)]
+#[derive(Clone, Copy)]
 pub struct LogOutcome {
     pub outcome: Outcome,
     pub ran: usize,

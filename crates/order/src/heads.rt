@@ -8,13 +8,13 @@ use deps::sets::DepSet;
 use leads::search;
 
 // A row's first slot that is to be written: its column, 32 for none, and what it leads to.
-#[derive(Drop)]
+#[derive(Clone, Copy)]
 pub struct Head {
     pub col: u8,
     pub reach: DepSet,
 }
 
-#[derive(Drop)]
+#[derive(Clone, Copy)]
 pub struct Heads {
     pub rows: [Head; 7],
 }

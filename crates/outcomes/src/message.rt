@@ -4,7 +4,7 @@ use deps::sets::DepSet;
 use table::place::Place;
 
 // An AcceptReply or ExpPrepare, and the head of the others.
-#[derive(Drop)]
+#[derive(Clone, Copy)]
 pub struct Message {
     pub peer: usize,
     pub at: Place,
@@ -12,7 +12,7 @@ pub struct Message {
 }
 
 // A PreAccept, Accept or CommitNotice.
-#[derive(Drop)]
+#[derive(Clone, Copy)]
 pub struct Proposal {
     pub message: Message,
     pub seq: u64,

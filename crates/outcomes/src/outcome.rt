@@ -6,7 +6,7 @@ use super::output::Output;
 use base::answer::Answer;
 use table::table::Table;
 
-#[derive(Drop)]
+#[derive(Clone, Copy)]
 pub struct Outcome {
     pub answer: Answer,
     pub table: Table,

@@ -10,7 +10,7 @@ use table::place::Place;
 
 // A record for the log; a broadcast; a reply to a peer, of which an ExpPrepare's names the ballot it was asked with; a note
 // to self.
-#[derive(Drop)]
+#[derive(Clone, Copy)]
 pub enum What {
     Nothing,
     Log,
@@ -22,7 +22,7 @@ pub enum What {
 }
 
 // With the values that the slot has then. What a reply or note has no use for is not sent.
-#[derive(Drop)]
+#[derive(Clone, Copy)]
 pub struct Record {
     pub what: What,
     pub at: Place,
@@ -63,7 +63,7 @@ impl Record {
 }
 
 // The first count records, in order. No call puts out more than two.
-#[derive(Drop)]
+#[derive(Clone, Copy)]
 pub struct Output {
     pub count: usize,
     pub records: [Record; 2],

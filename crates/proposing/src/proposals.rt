@@ -20,7 +20,7 @@ use slots::slot::Slot;
 use table::table::Table;
 
 // Which of the three it is.
-#[derive(Drop)]
+#[derive(Clone, Copy)]
 pub enum Phase {
     PreAccept,
     Accept,
@@ -28,7 +28,7 @@ pub enum Phase {
 }
 
 // What goes into the slot: a sequence that may be over the limit, and dependencies.
-#[derive(Drop)]
+#[derive(Clone, Copy)]
 pub struct Values {
     pub seq: u64,
     pub deps: DepSet,

@@ -1,4 +1,6 @@
 // The reader of a trace, which holds the trace and its place.
+#![tactic(auto)]
+
 pub mod next; // next.rt: the next event of a trace, for whoever has the trace and a place
 pub mod places; // places.rt: what stands at a place of a trace, and after it
 pub mod reader; // reader.rt: a trace and a place in it, in one struct

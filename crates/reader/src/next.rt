@@ -9,7 +9,7 @@ use steps::event::Event;
 
 // What was read, the place of what comes next, and how many bytes there are from there on. With a refusal, of which 0 is none,
 // the event stands for nothing, and the place is the trace's end.
-#[derive(Drop)]
+#[derive(Clone, Copy)]
 pub struct Next {
     pub event: Event,
     pub refusal: u64,

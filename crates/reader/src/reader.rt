@@ -1,12 +1,11 @@
-// A trace and a place in it, in one struct. The functions over it take it apart and leave the work to those on slice and place:
-// the checker covers none over a struct that holds a reference, and each is proved by a walk of its code.
+// A trace and a place in it, in one struct. The functions over it take it apart and leave the work to those on slice and place.
 ghost use Rattle.std.specs.Prelude.{◌≡◌, ◌≤◌};
 ghost use Rattle.reader.specs.Reader.{event_at, rest_from, reader_on};
 
 use super::places::{event_at, rest_from};
 use reading::events::EventRead;
 
-#[derive(Drop)]
+#[derive(Clone, Copy)]
 pub struct Reader<'a> {
     pub trace: &'a [u8],
     pub at: usize,

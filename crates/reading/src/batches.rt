@@ -6,19 +6,19 @@ ghost use Rattle.reading.specs.Held.{held_key, held_kind_read, held_request_read
 use deps::batches::{Batch, Kind, Request};
 use groups::cursor::Cursor;
 
-#[derive(Drop)]
+#[derive(Clone, Copy)]
 pub struct KindRead {
     pub kind: Kind,
     pub cursor: Cursor,
 }
 
-#[derive(Drop)]
+#[derive(Clone, Copy)]
 pub struct RequestRead {
     pub request: Request,
     pub cursor: Cursor,
 }
 
-#[derive(Drop)]
+#[derive(Clone, Copy)]
 pub struct BatchRead {
     pub batch: Batch,
     pub cursor: Cursor,

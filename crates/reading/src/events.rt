@@ -14,19 +14,19 @@ use groups::cursor::Cursor;
 use outcomes::message::{Message, Proposal};
 use steps::event::{Event, Tag};
 
-#[derive(Drop)]
+#[derive(Clone, Copy)]
 pub struct HeaderRead {
     pub config: Config,
     pub cursor: Cursor,
 }
 
-#[derive(Drop)]
+#[derive(Clone, Copy)]
 pub struct ProposalRead {
     pub proposal: Proposal,
     pub cursor: Cursor,
 }
 
-#[derive(Drop)]
+#[derive(Clone, Copy)]
 pub struct EventRead {
     pub event: Event,
     pub cursor: Cursor,

@@ -8,19 +8,19 @@ use groups::cursor::Cursor;
 use outcomes::message::Message;
 use table::place::Place;
 
-#[derive(Drop)]
+#[derive(Clone, Copy)]
 pub struct PlaceRead {
     pub at: Place,
     pub cursor: Cursor,
 }
 
-#[derive(Drop)]
+#[derive(Clone, Copy)]
 pub struct MessageRead {
     pub message: Message,
     pub cursor: Cursor,
 }
 
-#[derive(Drop)]
+#[derive(Clone, Copy)]
 pub struct SetRead {
     pub set: DepSet,
     pub cursor: Cursor,

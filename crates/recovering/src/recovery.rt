@@ -15,14 +15,14 @@ use votes::holder::Holder;
 use votes::{contents, identical};
 
 // Whose counts.
-#[derive(Drop)]
+#[derive(Clone, Copy)]
 pub enum Rule {
     Rust,
     Paper,
 }
 
 // The row of the slot, the highest ballot that was voted at, and the row's default ballot.
-#[derive(Drop)]
+#[derive(Clone, Copy)]
 pub struct Prepare {
     pub row: usize,
     pub highest: u64,
@@ -30,7 +30,7 @@ pub struct Prepare {
 }
 
 // How many votes have to be there, and how many of them identical.
-#[derive(Drop)]
+#[derive(Clone, Copy)]
 pub struct Counts {
     pub there: usize,
     pub identical: usize,

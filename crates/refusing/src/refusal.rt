@@ -7,7 +7,7 @@ use base::{marks, refusals};
 use votes::contents::Contents;
 
 // The parts of an entry that have bounds.
-#[derive(Drop)]
+#[derive(Clone, Copy)]
 pub enum Part {
     Deps,
     Batch,

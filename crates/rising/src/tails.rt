@@ -12,7 +12,7 @@ use table::place::Place;
 use table::table::Table;
 
 // A table, and how many entries of the order list are written.
-#[derive(Drop)]
+#[derive(Clone, Copy)]
 pub struct Ran {
     pub table: Table,
     pub end: usize,

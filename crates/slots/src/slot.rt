@@ -9,7 +9,7 @@ use deps::sets::DepSet;
 
 // A slot that is led has a leader's accept marks; of one that is not they say nothing. Wide fields first: a slot takes 168
 // bytes so, and a table of 224 stays below 40,000.
-#[derive(Drop)]
+#[derive(Clone, Copy)]
 pub struct Slot {
     pub ballot: u64,
     pub batch: Batch,

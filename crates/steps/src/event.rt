@@ -5,7 +5,7 @@ ghost use Rattle.steps.specs.Calls.{tag_of};
 use base::log_status::LogStatus;
 use outcomes::message::Proposal;
 
-#[derive(Drop)]
+#[derive(Clone, Copy)]
 pub enum Tag {
     PreAccept,
     Accept,
@@ -18,7 +18,7 @@ pub enum Tag {
 }
 
 // AcceptReply and ExpPrepare have of the proposal the message alone, the last three its place; the status is that of a Logged.
-#[derive(Drop)]
+#[derive(Clone, Copy)]
 pub struct Event {
     pub tag: Tag,
     pub proposal: Proposal,

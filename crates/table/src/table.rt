@@ -11,7 +11,7 @@ use keys::columns::Keys;
 use slots::slot::Slot;
 
 // The slot of row r and column c stands at 32 * r + c. What stands past a row's length is nobody's.
-#[derive(Drop)]
+#[derive(Clone, Copy)]
 pub struct Table {
     pub config: Config,
     pub slots: [Slot; 224],

@@ -30,7 +30,7 @@ pub const SHORT: u64 = 0;
 
 // DONE, SHORT or the number of the refusal; the table after the last event, or one that every entry refuses; the end of the
 // text.
-#[derive(Drop)]
+#[derive(Clone, Copy)]
 pub struct Ran {
     pub number: u64,
     pub table: Table,

@@ -12,7 +12,7 @@ use table::table::Table;
 
 // How far a run has come: its table, the place of the next event, how many bytes there are from there on, how many events there
 // were, and the end of their text.
-#[derive(Drop)]
+#[derive(Clone, Copy)]
 pub struct Run {
     pub table: Table,
     pub at: usize,

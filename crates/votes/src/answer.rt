@@ -4,7 +4,7 @@ ghost use Rattle.votes.specs.Answer.{decision_of, refused};
 
 use super::contents::Contents;
 
-#[derive(Drop)]
+#[derive(Clone, Copy)]
 pub enum Step {
     Wait,
     Committed,
@@ -14,7 +14,7 @@ pub enum Step {
 }
 
 // The step, and what to go on with: nothing beside a wait or a refusal.
-#[derive(Drop)]
+#[derive(Clone, Copy)]
 pub struct Decision {
     pub step: Step,
     pub contents: Contents,

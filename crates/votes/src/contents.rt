@@ -5,7 +5,7 @@ ghost use Rattle.votes.specs.Contents.{same_contents, join_of, entries_of};
 use deps::batches::Batch;
 use deps::sets::DepSet;
 
-#[derive(Drop)]
+#[derive(Clone, Copy)]
 pub struct Contents {
     pub seq: u64,
     pub deps: DepSet,

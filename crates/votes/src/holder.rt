@@ -5,7 +5,7 @@ ghost use Rattle.votes.specs.Holder.{Inside, first_of, decided_by};
 use super::answer::{Decision, Step};
 use super::contents::Contents;
 
-#[derive(Drop)]
+#[derive(Clone, Copy)]
 pub enum Holder {
     Nobody,
     Replica { number: usize },

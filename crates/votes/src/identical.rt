@@ -6,14 +6,14 @@ use super::contents::Contents;
 use super::holder::Holder;
 
 // The lowest replica listed whose entry has enough equals among those listed, and the greatest number of equals.
-#[derive(Drop)]
+#[derive(Clone, Copy)]
 pub struct Identical {
     pub first: Holder,
     pub most: usize,
 }
 
 // How many of the entries left are equal to one, and which are left without them.
-#[derive(Drop)]
+#[derive(Clone, Copy)]
 pub struct Group {
     pub count: usize,
     pub left: [bool; 7],
