@@ -134,7 +134,7 @@ module _ (t : Table) (at : Place) (h : table_fits t ≡ true) (row : at.row < 7)
     pub held : (k : ℕ) → Reached k → is_held_no t k ≡ true
     held k l =
         let s = reached_slot k l in
-        lt-ltb (k % 32) (len_of t (k / 32)) (omega (arith, under_bars is_below k l, (table_fits_each t h).bars-fit (k / 32) (omega arith)))
+        lt-ltb (k % 32) (len_of t (k / 32)) (omega (arith, under_bars is_below k l, (table_fits_each t h).bars_fit (k / 32) (omega arith)))
 
     -- the reached slots that have not run
     pub to_run_lem : (k : ℕ) → On (to_run t at) k ↔ (Reached k × (has_run t k ≡ false))

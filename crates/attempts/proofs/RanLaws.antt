@@ -50,11 +50,11 @@ module _ (t : Table) (marks : List Bool) where
       let w = table_fits_each t h in
       each_table_fits (ran_with t marks)
       (record {
-        config-fits = w.config-fits;
-        lens-fit = w.lens-fit;
-        bars-fit = w.bars-fit;
-        slots-fit = λ i l held. slot_keeps t.config.n i l (w.slots-fit i l held);
-        keys-fit = w.keys-fit;
+        config_fits = w.config_fits;
+        lens_fit = w.lens_fit;
+        bars_fit = w.bars_fit;
+        slots_fit = λ i l held. slot_keeps t.config.n i l (w.slots_fit i l held);
+        keys_fit = w.keys_fit;
       })
 
   -- its lengths, bars, dependencies and sequences are those of before

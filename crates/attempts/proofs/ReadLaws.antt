@@ -35,8 +35,8 @@ module _ (t : Table) where
     where
       go : (b : Bool) → is_held_no t i ≡ b → dep_of_no t i row ≤ 32
       go true e =
-          let f = (table_fits_each t h).slots-fit i l (ltb-true (i % 32) (len_of t (i / 32)) e) in
-          rw e (number_low t.config.n (slot_no t i).deps (slot_fits_each t.config.n (slot_no t i) f).deps-fit row m)
+          let f = (table_fits_each t h).slots_fit i l (ltb-true (i % 32) (len_of t (i / 32)) e) in
+          rw e (number_low t.config.n (slot_no t i).deps (slot_fits_each t.config.n (slot_no t i) f).deps_fit row m)
       go false e = rw e (omega arith)
 
   deps_length : length (deps_of t) ≡ 1568

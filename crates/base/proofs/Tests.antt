@@ -1,10 +1,9 @@
--- What a test of `!x` says of what x is.
+-- What the test of a call's result says of what the call ensures it to be.
 use mathlib.Core.Path.{◌≡◌, sym, ◌∙◌}
-use mathlib.Core.Bool.{Bool, true, false, not}
-use borrow.Author.Tests.{not-true, not-false}
+use mathlib.Core.Bool.{Bool, true, false}
 
-pub passed : {x y : Bool} → x ≡ y → not x ≡ false → y ≡ true
-passed {x} e h = sym e ∙ not-false x h
+pub passed : {x y : Bool} → x ≡ y → x ≡ true → y ≡ true
+passed e h = sym e ∙ h
 
-pub failed : {x y : Bool} → x ≡ y → not x ≡ true → y ≡ false
-failed {x} e h = sym e ∙ not-true x h
+pub failed : {x y : Bool} → x ≡ y → x ≡ false → y ≡ false
+failed e h = sym e ∙ h

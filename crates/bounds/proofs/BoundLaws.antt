@@ -28,11 +28,11 @@ use Rattle.table.proofs.SlotReads.{index_row, index_col, holds_each, put_elsewhe
 
 -- no row longer than its room, no bar past its row's slots, every slot in the table and every key's columns within
 pub record TableWithin (t : Table) : Type 0 where
-  pub config_fits_lem : Within t.config
+  pub config_fits : Within t.config
   pub lens_fit : (row : ℕ) → row < 7 → len_of t row ≤ room t.config.n row
   pub bars_fit : (row : ℕ) → row < 7 → bar_of t row ≤ len_of t row
-  pub slots_fit_lem : (i : ℕ) → i < 224 → i % 32 < len_of t (i / 32) → slot_fits t.config.n (slot_no t i) ≡ true
-  pub keys_fit_lem : keys_fit t.config.n t.keys ≡ true
+  pub slots_fit : (i : ℕ) → i < 224 → i % 32 < len_of t (i / 32) → slot_fits t.config.n (slot_no t i) ≡ true
+  pub keys_fit : keys_fit t.config.n t.keys ≡ true
 
 module _ (n : ℕ) (lens bars : List ℕ) where
   pub rows_fit_each : rows_fit n lens bars ≡ true → (row : ℕ) → row < 7 → (get_or lens row 0 ≤ room n row) × (get_or bars row 0 ≤ get_or lens row 0)
@@ -68,17 +68,17 @@ module _ (t : Table) where
       let d = both_true _ _ b.1 in
       let rows = rows_fit_each t.config.n t.lens t.bars b.0 in
       record {
-        config_fits_lem = config_fits_each t.config a.0;
+        config_fits = config_fits_each t.config a.0;
         lens_fit = λ row l. (rows row l).0;
         bars_fit = λ row l. (rows row l).1;
-        slots_fit_lem = slots_fit_each d.0;
-        keys_fit_lem = d.1;
+        slots_fit = slots_fit_each d.0;
+        keys_fit = d.1;
       }
 
   pub each_table_fits : TableWithin t → table_fits t ≡ true
   unfolding table_fits
   each_table_fits w =
-      rw (each_config_fits t.config w.config-fits, each_rows_fit t.config.n t.lens t.bars (λ row l. (w.lens-fit row l, w.bars-fit row l)), each_slots_fit w.slots-fit, w.keys-fit)
+      rw (each_config_fits t.config w.config_fits, each_rows_fit t.config.n t.lens t.bars (λ row l. (w.lens_fit row l, w.bars_fit row l)), each_slots_fit w.slots_fit, w.keys_fit)
 
   pub table_outside : (TableWithin t → ⊥) → table_fits t ≡ false
   table_outside h = go (table_fits t) refl
@@ -100,7 +100,7 @@ no_room n row l = rw (le-ltb row n l)
 
 module _ (t : Table) (h : table_fits t ≡ true) where
   pub len_at_most : (row : ℕ) → row < 7 → len_of t row ≤ 32
-  len_at_most row l = omega (arith, (table_fits_each t h).lens-fit row l, room_at_most t.config.n row)
+  len_at_most row l = omega (arith, (table_fits_each t h).lens_fit row l, room_at_most t.config.n row)
 
   pub held_row : (row col : ℕ) → row < 7 → col < len_of t row → row < t.config.n
   held_row row col l held = go (ltb row t.config.n) refl
@@ -108,16 +108,16 @@ module _ (t : Table) (h : table_fits t ≡ true) where
       go : (b : Bool) → ltb row t.config.n ≡ b → row < t.config.n
       go true e = ltb-true row t.config.n e
       go false e =
-          absurd (omega (arith, (table_fits_each t h).lens-fit row l, no_room t.config.n row (ltb-false row t.config.n e)))
+          absurd (omega (arith, (table_fits_each t h).lens_fit row l, no_room t.config.n row (ltb-false row t.config.n e)))
 
   pub row_below : (row : ℕ) → row < t.config.n → row < 7
-  row_below row l = omega (arith, (table_fits_each t h).config-fits.seven)
+  row_below row l = omega (arith, (table_fits_each t h).config_fits.seven)
 
   -- the slot at a place in the table
   pub held_slot_fits : (at : Place) → at.row < 7 → holds t at ≡ true → slot_fits t.config.n (slot_of t at) ≡ true
   held_slot_fits at l held =
       let p = holds_each t at held in
-      (table_fits_each t h).slots-fit (index_of at) (omega arith) (rw (index_row at p.0, index_col at p.0) p.1)
+      (table_fits_each t h).slots_fit (index_of at) (omega arith) (rw (index_row at p.0, index_col at p.0) p.1)
 
 -- ---- a slot put, null slots added, a slot stored
 
@@ -133,7 +133,7 @@ module _ (t : Table) (at : Place) (h : table_fits t ≡ true) where
   put_slots_fit : (s : Slot) → slot_fits t.config.n s ≡ true → (i : ℕ) → i < 224 → i % 32 < len_of t (i / 32) → slot_fits t.config.n (slot_no (put_at t at s) i) ≡ true
   put_slots_fit s f i l held =
       ⊎_elim
-      (λ e. ap (slot_fits t.config.n) e ∙ (table_fits_each t h).slots-fit i l held)
+      (λ e. ap (slot_fits t.config.n) e ∙ (table_fits_each t h).slots_fit i l held)
       (λ e. ap (slot_fits t.config.n) e ∙ f)
       (put_either t at s i)
 
@@ -141,7 +141,7 @@ module _ (t : Table) (at : Place) (h : table_fits t ≡ true) where
   put_keeps s f =
       let w = table_fits_each t h in
       each_table_fits (put_at t at s)
-      (record { config_fits_lem = w.config-fits; lens_fit = w.lens-fit; bars_fit = w.bars-fit; slots_fit_lem = put_slots_fit s f; keys_fit_lem = w.keys-fit })
+      (record { config_fits = w.config_fits; lens_fit = w.lens_fit; bars_fit = w.bars_fit; slots_fit = put_slots_fit s f; keys_fit = w.keys_fit })
 
   pub stored_keeps : (s : Slot) → slot_fits t.config.n s ≡ true → at.row < t.config.n → at.col < 32 → table_fits (stored_at t at s) ≡ true
   unfolding stored_at
@@ -149,11 +149,11 @@ module _ (t : Table) (at : Place) (h : table_fits t ≡ true) where
       let w = table_fits_each t h in
       each_table_fits (stored_at t at s)
       (record {
-        config_fits_lem = w.config-fits;
-        lens_fit = w.lens-fit;
-        bars_fit = w.bars-fit;
-        slots_fit_lem = put_slots_fit s f;
-        keys_fit_lem = refresh_fits at.row at.col t.config.n t.keys s.batch l m w.keys-fit;
+        config_fits = w.config_fits;
+        lens_fit = w.lens_fit;
+        bars_fit = w.bars_fit;
+        slots_fit = put_slots_fit s f;
+        keys_fit = refresh_fits at.row at.col t.config.n t.keys s.batch l m w.keys_fit;
       })
 
   -- the row grown to a column
@@ -163,13 +163,13 @@ module _ (t : Table) (at : Place) (h : table_fits t ≡ true) where
 
     grown_lens_fit : (row : ℕ) → row < 7 → (b : Bool) → eqb row at.row ≡ b → len_of (grown t at) row ≤ room t.config.n row
     grown_lens_fit row i true q = rw (eqb-true row at.row q, its_len, lt-ltb at.row t.config.n l) m
-    grown_lens_fit row i false q = rw (grown_len_other t at row (eqb-false row at.row q)) ((table_fits_each t h).lens-fit row i)
+    grown_lens_fit row i false q = rw (grown_len_other t at row (eqb-false row at.row q)) ((table_fits_each t h).lens_fit row i)
 
     grown_bars_fit : (row : ℕ) → row < 7 → (b : Bool) → eqb row at.row ≡ b → bar_of t row ≤ len_of (grown t at) row
     grown_bars_fit row i true q =
         let r = eqb-true row at.row q in
-        rw (r, its_len) (omega (arith, (table_fits_each t h).bars-fit at.row (rw r at i)))
-    grown_bars_fit row i false q = rw (grown_len_other t at row (eqb-false row at.row q)) ((table_fits_each t h).bars-fit row i)
+        rw (r, its_len) (omega (arith, (table_fits_each t h).bars_fit at.row (rw r at i)))
+    grown_bars_fit row i false q = rw (grown_len_other t at row (eqb-false row at.row q)) ((table_fits_each t h).bars_fit row i)
 
     -- a slot in the grown table that is not new was in the table
     held_before : (i : ℕ) → i % 32 < len_of (grown t at) (i / 32) → (32 * at.row + len_of t at.row ≤ i → i < 32 * at.row + suc at.col → ⊥) → (b : Bool) → eqb (i / 32) at.row ≡ b → i % 32 < len_of t (i / 32)
@@ -186,7 +186,7 @@ module _ (t : Table) (at : Place) (h : table_fits t ≡ true) where
     grown_slots_fit i k held =
         ⊎_elim
         (λ q. ap (slot_fits t.config.n) q.2 ∙ null_fits t.config.n)
-        (λ q. ap (slot_fits t.config.n) q.1 ∙ (table_fits_each t h).slots-fit i k (held_before i held q.0 (eqb (i / 32) at.row) refl))
+        (λ q. ap (slot_fits t.config.n) q.1 ∙ (table_fits_each t h).slots_fit i k (held_before i held q.0 (eqb (i / 32) at.row) refl))
         (null_or_kept t (32 * at.row + len_of t at.row) (32 * at.row + suc at.col) i k)
 
     grown_keeps : table_fits (grown t at) ≡ true
@@ -194,11 +194,11 @@ module _ (t : Table) (at : Place) (h : table_fits t ≡ true) where
         let w = table_fits_each t h in
         each_table_fits (grown t at)
         (record {
-          config_fits_lem = w.config-fits;
+          config_fits = w.config_fits;
           lens_fit = λ row i. grown_lens_fit row i (eqb row at.row) refl;
           bars_fit = λ row i. grown_bars_fit row i (eqb row at.row) refl;
-          slots_fit_lem = grown_slots_fit;
-          keys_fit_lem = w.keys-fit;
+          slots_fit = grown_slots_fit;
+          keys_fit = w.keys_fit;
         })
 
   pub nulls_keep : length t.lens ≡ 7 → at.row < t.config.n → at.col < 32 → table_fits (nulls_to t at) ≡ true

@@ -27,7 +27,7 @@ use Rattle.bounds.proofs.BoundLaws.{each_table_fits}
 pub record Empty (t : Table) : Type 0 where
   pub no_len : (row : ℕ) → len_of t row ≡ 0
   pub no_bar : (row : ℕ) → bar_of t row ≡ 0
-  pub no_slot_lem : (at : Place) → holds t at ≡ false
+  pub no_slot : (at : Place) → holds t at ≡ false
   pub all_null : (i : ℕ) → i < 224 → slot_no t i ≡ null_slot
   pub no_key : (key : ℕ) → columns_of t.keys key ≡ empty_set
 
@@ -37,7 +37,7 @@ open_empty c =
     record {
       no_len = λ row. replicate_at 7 row 0;
       no_bar = λ row. replicate_at 7 row 0;
-      no_slot_lem = λ at. holds_not (empty_table c) at (omega (arith, replicate_at {A = ℕ} 7 at.row 0));
+      no_slot = λ at. holds_not (empty_table c) at (omega (arith, replicate_at {A = ℕ} 7 at.row 0));
       all_null = λ i l. get_or-replicate 224 i null_slot blank_slot l;
       no_key = empty_columns;
     }
@@ -48,11 +48,11 @@ empty_within c h =
     let e = open_empty c in
     each_table_fits (empty_table c)
     (record {
-      config-fits = config_fits_each c h;
-      lens-fit = λ row l. omega (arith, e.no-len row);
-      bars-fit = λ row l. omega (arith, e.no-len row, e.no-bar row);
-      slots-fit = λ i l held. absurd (omega (arith, e.no-len (i / 32)));
-      keys-fit = empty_keys_fit c.n;
+      config_fits = config_fits_each c h;
+      lens_fit = λ row l. omega (arith, e.no_len row);
+      bars_fit = λ row l. omega (arith, e.no_len row, e.no_bar row);
+      slots_fit = λ i l held. absurd (omega (arith, e.no_len (i / 32)));
+      keys_fit = empty_keys_fit c.n;
     })
 
 pub empty_outside : (c : Config) → config_fits c ≡ false → table_fits (empty_table c) ≡ false

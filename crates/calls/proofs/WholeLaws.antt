@@ -176,11 +176,11 @@ empty_whole c h =
     let e = open_empty c in
     record {
       config = record { n = omega (arith, f.seven); own = omega (arith, f.seven, f.mine); simple = omega (arith, f.seven, f.rising, f.all); sup = omega (arith, f.seven, f.all) };
-      lens = record { seven = refl; each = λ i p. omega (arith, e.no-len i) };
-      bars = record { seven = refl; each = λ i p. omega (arith, e.no-bar i) };
+      lens = record { seven = refl; each = λ i p. omega (arith, e.no_len i) };
+      bars = record { seven = refl; each = λ i p. omega (arith, e.no_bar i) };
       keys = record { keys = length-replicate 256 (replicate {A = ℕ} 7 0); each = λ key p. ap (λ (d : DepSet). length d.cols) (e.no_key key) };
       slots = length-replicate 224 null_slot;
-      each = λ i p. rw (e.all-null i p) null_whole;
+      each = λ i p. rw (e.all_null i p) null_whole;
     }
 
 -- ---- the handlers

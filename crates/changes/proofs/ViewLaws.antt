@@ -104,7 +104,7 @@ lead_in v at = first_refusal (lead_tests_in v.within v.config.n v.held at)
 
 pub seven_seen : (t : Table) (at : Place) (b : Batch) → Seven (view_of t at b)
 unfolding view_of
-seven_seen t at b w = (table_fits_each t w).config-fits.seven
+seven_seen t at b w = (table_fits_each t w).config_fits.seven
 
 module _ (t : Table) (at : Place) (b : Batch) (v : View) (e : view_of t at b ≡ v) where
   pub config_seen : t.config ≡ v.config

@@ -35,11 +35,11 @@ pub record Tries (t : Table) (at : Place) (answer : Answer) (w : List ℕ) (u : 
   pub wrote : written (answer_of t at) t at ≡ w
   pub leaves : (attempt_on t at).table ≡ u
 
-tries : {t : Table} {at : Place} {answer : Answer} {w : List ℕ} {u : Table} → answer_of t at ≡ answer → written answer t at ≡ w → Attempt.tableAfter answer t at ≡ u
+tries : {t : Table} {at : Place} {answer : Answer} {w : List ℕ} {u : Table} → answer_of t at ≡ answer → written answer t at ≡ w → Attempt.table_after answer t at ≡ u
     → Tries t at answer w u
 unfolding attempt_on
 tries {t} {at} says wrote leaves =
-    record { says = says; wrote = ap (λ a. written a t at) says ∙ wrote; leaves = ap (λ a. Attempt.tableAfter a t at) says ∙ leaves }
+    record { says = says; wrote = ap (λ a. written a t at) says ∙ wrote; leaves = ap (λ a. Attempt.table_after a t at) says ∙ leaves }
 
 -- of a slot that has not run: the dependency sets of the table, and by them the slot's frontier
 pub record Reaches (t : Table) (at : Place) (deps F : List ℕ) : Type 0 where
@@ -117,12 +117,12 @@ pub record Rises (t : Table) (at : Place) (v : Table) : Type 0 where
 
 pub logged_goes : {t v u : Table} {at : Place} {answer : Answer} {w : List ℕ} → Rises t at v → Tries v at answer w u → rest answer u ≡ [] → front w ≡ w
     → Goes t (log Committed at) w u
-unfolding on_committed on_risen logged_of logged_order logged_on Logged.orderOn
+unfolding on_committed on_risen logged_of logged_order logged_on Logged.order_on
 logged_goes {t} {v} {u} {at} {answer} {w} r h e f =
     let entries : on_committed t at ≡ record { table = u; wrote = w } =
     ap (λ c. cond c (on_risen t at.row) (attempts_on t [])) r.risen ∙ ap₂ (λ x p. attempts_on x (attempted_from x p)) r.bars r.here ∙ one_attempt h e in
     record {
-      slots = ap (λ k. take (logged_or k Committed t at).ran (Logged.orderOr k Committed t at (replicate 224 0))) r.refusal ∙ ap (λ a. front a.wrote) entries ∙ f;
+      slots = ap (λ k. take (logged_or k Committed t at).ran (Logged.order_or k Committed t at (replicate 224 0))) r.refusal ∙ ap (λ a. front a.wrote) entries ∙ f;
       leaves = ap (λ k. (logged_or k Committed t at).outcome.table) r.refusal ∙ ap (λ a. a.table) entries;
     }
 

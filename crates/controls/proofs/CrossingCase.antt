@@ -89,9 +89,9 @@ crossing_plays : (seq : ℕ) (L : List ℕ) → Crossing seq L → Plays (begun 
 crossing_plays seq L c =
     let tried : Tries (crossed seq Committed 1) (place_of 1 0) Done L (crossed seq Executed 1) =
     tries_done (record { sets = crossed_sets seq Committed; reach = frontier_rest frontiers.second; unrun = (unrun seq).second }) c.runs in
-    plays_more c.edit-noticed c.kept-first
-    (plays_more (logged_goes (noted_risen seq) (noted_tried seq) refl refl) c.kept-bar
-    (plays_more c.look-noticed c.kept_second
+    plays_more c.edit_noticed c.kept_first
+    (plays_more (logged_goes (noted_risen seq) (noted_tried seq) refl refl) c.kept_bar
+    (plays_more c.look_noticed c.kept_second
     (plays_more (logged_goes (crossed_risen seq) tried (unrun seq).rests c.written) c.kept_run plays_none)))
 
 one_crossing : Crossing 2 (32 ∷ 0 ∷ [])

@@ -93,4 +93,4 @@ pub alone_plays : Plays (empty_table again.config) again.calls (0 ∷ 0 ∷ []) 
 alone_plays =
     plays_more alone_noticed.first alone_kept.first
     (plays_more alone_logged alone_kept.run
-    (plays_more alone_noticed.again alone_kept.lowered (plays_more alone_attempted alone_kept.run-again plays_none)))
+    (plays_more alone_noticed.again alone_kept.lowered (plays_more alone_attempted alone_kept.run_again plays_none)))

@@ -141,35 +141,35 @@ two_kept = record { heard_kept = refl; noticed = refl; bar = refl; look_led = re
 
 pending_logged : Goes (pending 0) (logged_committed 1 0) [] (pending 1)
 pending_logged =
-    logged_goes two_bounds.pending-risen
+    logged_goes two_bounds.pending_risen
     (tries_notyet
-    (record { sets = two_sets.pending-sets; reach = frontier_rest frontiers.early; unrun = two_answers.pending-unrun })
-    two_answers.pending-above)
+    (record { sets = two_sets.pending_sets; reach = frontier_rest frontiers.early; unrun = two_answers.pending_unrun })
+    two_answers.pending_above)
     refl
     refl
 
 led_attempted : Goes led (attempt 1 0) [] led
 led_attempted =
-    attempt_goes two_bounds.led-bound
-    (tries_notyet (record { sets = two_sets.led-sets; reach = frontier_rest frontiers.early; unrun = two_answers.led-unrun }) two_answers.led-above)
+    attempt_goes two_bounds.led_bound
+    (tries_notyet (record { sets = two_sets.led_sets; reach = frontier_rest frontiers.early; unrun = two_answers.led_unrun }) two_answers.led_above)
     refl
 
 closed_logged : Goes (closed Committed 0) (logged_committed 0 0) (32 ∷ 0 ∷ []) (closed Executed 1)
 closed_logged =
-    logged_goes two_bounds.closed-risen
-    (tries_done (record { sets = two_sets.closed-sets; reach = frontier_rest frontiers.first; unrun = two_answers.closed-unrun }) two_runs)
+    logged_goes two_bounds.closed_risen
+    (tries_done (record { sets = two_sets.closed_sets; reach = frontier_rest frontiers.first; unrun = two_answers.closed_unrun }) two_runs)
     two_answers.rests
     refl
 
 closed_attempted : Goes (closed Executed 1) (attempt 1 0) [] (closed Executed 1)
-closed_attempted = attempt_goes two_bounds.closed-bound (tries_already two_answers.closed_run) refl
+closed_attempted = attempt_goes two_bounds.closed_bound (tries_already two_answers.closed_run) refl
 
 pub two_plays : Plays (begun two) two.calls (32 ∷ 0 ∷ []) (closed Executed 1) true
 two_plays =
-    plays_more two_handled.edit-heard two_kept.heard-kept
-    (plays_more two_handled.look-noticed two_kept.noticed
+    plays_more two_handled.edit_heard two_kept.heard_kept
+    (plays_more two_handled.look_noticed two_kept.noticed
     (plays_more pending_logged two_kept.bar
-    (plays_more two_handled.look-led two_kept.look-led
+    (plays_more two_handled.look_led two_kept.look_led
     (plays_more led_attempted two_kept.tried
-    (plays_more two_handled.edit-noticed two_kept.edit-noticed
-    (plays_more closed_logged two_kept.run (plays_more closed_attempted two_kept.tried-again plays_none)))))))
+    (plays_more two_handled.edit_noticed two_kept.edit_noticed
+    (plays_more closed_logged two_kept.run (plays_more closed_attempted two_kept.tried_again plays_none)))))))

@@ -1,7 +1,7 @@
 -- An attempt not refused, on a slot not yet run, runs it and all it leads to that has not run, or nothing; and nothing exactly when
 -- one of these is not below its row's commit bar. So does each attempt of a Logged.
 use mathlib.Core.Path.{◌≡◌, refl, ap, subst}
-use mathlib.Core.List.{List, [], ◌∷◌}
+use mathlib.Core.List.{List, [], ◌∷◌, ◌++◌}
 use mathlib.Core.Logic.{◌⊎◌, inl, inr, ⊎_elim, ◌↔◌}
 use mathlib.Core.Bool.{true, false}
 use Prim.Native.Nat.{ℕ, zero, suc, ◌/◌, ◌%◌, ◌<◌}
@@ -91,11 +91,11 @@ module _ {h : List ℕ} {t : Table} (r : Reached h t) (sized : Sized t) (fits : 
 
 each_claim : {h : List ℕ} {t : Table} → Reached h t → Sized t → table_fits t ≡ true → (places : List Place) → InRows places → EachAllOrNothing t places
 each_claim r s f [] p = tt
-each_claim {t = t} r s f (at ∷ places) p =
+each_claim {h = h} {t = t} r s f (at ∷ places) p =
     let only = attempt_only_slots t at in (
       attempt_claim r s f at p.0 p.1,
-      each_claim (reached_moves r (attempt_moves t at s f p.0 p.1)) (same_sized t (attempt_on t at).table only.lens only.keys s)
-          (attempt_keeps t at f p.0 p.1) places p.2,
+      each_claim {h = h ++ written (answer_of t at) t at} (reached_moves r (attempt_moves t at s f p.0 p.1))
+          (same_sized t (attempt_on t at).table only.lens only.keys s) (attempt_keeps t at f p.0 p.1) places p.2,
     )
 
 -- ---- the claims

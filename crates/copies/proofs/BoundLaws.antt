@@ -43,34 +43,34 @@ copy_within c f = run_fits (begun c) c.calls (empty_sized c.config) (empty_withi
 
 message_outside : {t : Table} {m : Message} {k : ℕ} → MessageRefused t m k → k ≡ outside_bounds → table_fits t ≡ false
 message_outside (handlers.outside h) e = h
-message_outside (handlers.no-replica h n) e = absurd (omega arith)
-message_outside (handlers.no-column h p r c) e = absurd (omega arith)
+message_outside (handlers.no_replica_lem h n) e = absurd (omega arith)
+message_outside (handlers.no_column_lem h p r c) e = absurd (omega arith)
 
 contents_outside : {t : Table} {p : Proposal} {k : ℕ} → ContentsRefused t p k → k ≡ outside_bounds → table_fits t ≡ false
-contents_outside (handlers.bad-dependency h d) e = absurd (omega arith)
-contents_outside (handlers.bad-batch h d b) e = absurd (omega arith)
-contents_outside (handlers.over-limit h d b s) e = absurd (omega arith)
+contents_outside (handlers.bad_dependency_lem h d) e = absurd (omega arith)
+contents_outside (handlers.bad_batch_lem h d b) e = absurd (omega arith)
+contents_outside (handlers.over_limit_lem h d b s) e = absurd (omega arith)
 
 proposal_outside : {phase : Phase} {t : Table} {p : Proposal} {k : ℕ} → ProposalRefused phase t p k → k ≡ outside_bounds → table_fits t ≡ false
-proposal_outside (handlers.by-message r) e = message_outside r e
-proposal_outside (handlers.by-contents r) e = contents_outside r e
-proposal_outside (handlers.stored-over h b s) e = absurd (omega arith)
+proposal_outside (handlers.by_message r) e = message_outside r e
+proposal_outside (handlers.by_contents r) e = contents_outside r e
+proposal_outside (handlers.stored_over h b s) e = absurd (omega arith)
 
 lead_outside : {t : Table} {at : Place} {k : ℕ} → LeadRefused t at k → k ≡ outside_bounds → table_fits t ≡ false
 lead_outside (handlers.outside h) e = h
 lead_outside (handlers.no_row h r) e = absurd (omega arith)
-lead_outside (handlers.no-column h r c) e = absurd (omega arith)
-lead_outside (handlers.no-slot p h) e = absurd (omega arith)
+lead_outside (handlers.no_column_lem h r c) e = absurd (omega arith)
+lead_outside (handlers.no_slot_lem p h) e = absurd (omega arith)
 
 attempt_outside : {t : Table} {at : Place} {entries k : ℕ} → AttemptRefused t at entries k → k ≡ outside_bounds → table_fits t ≡ false
-attempt_outside (attempts.short-order l) e = absurd (omega arith)
+attempt_outside (attempts.short_order_lem l) e = absurd (omega arith)
 attempt_outside (attempts.outside l h) e = h
 attempt_outside (attempts.no_row l h r) e = absurd (omega arith)
-attempt_outside (attempts.no-column l h r c) e = absurd (omega arith)
+attempt_outside (attempts.no_column_lem l h r c) e = absurd (omega arith)
 
 logged_outside : {t : Table} {at : Place} {entries k : ℕ} → LoggedRefused t at entries k → k ≡ outside_bounds → table_fits t ≡ false
-logged_outside (logged.short-order l) e = absurd (omega arith)
-logged_outside (logged.by-slot l r) e = lead_outside r e
+logged_outside (logged.short_order_lem l) e = absurd (omega arith)
+logged_outside (logged.by_slot l r) e = lead_outside r e
 
 step_outside : (t : Table) (call : Call) → answer_to t call ≡ Refused outside_bounds → table_fits t ≡ false
 step_outside t (propose phase p) e = proposal_outside ((proposed_exactly phase t p 1).0 ((answers_refused t (proposed phase t p) 1).0 e)) refl

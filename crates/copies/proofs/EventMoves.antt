@@ -1,16 +1,16 @@
 -- Each event of a trace is a list of moves, where the call keeps what is committed.
 --
--- A new event joins here: it gets its own `-moves` lemma and its case in `step-moves`, and the theorem stays as it is. The lemma
+-- A new event joins here: it gets its own `_moves` lemma and its case in `step_moves`, and the theorem stays as it is. The lemma
 -- has to show that from the table before to the table after there are moves which write what `slots_run` says of the call, in that
 -- order:
---   - a call that runs nothing and moves no bar is one move, by `quiet-moves`: no slot has run after it that had not before, the
+--   - a call that runs nothing and moves no bar is one move, by `quiet_moves`: no slot has run after it that had not before, the
 --     bars are as they were, and no slot is written;
---   - a bar that rises is one move, by `rise-alters`;
---   - attempts are moves by `attempt-moves` and `attempts-moves`;
---   - moves one after the other are moves, by `moves-join`.
--- The moves ask only that the table has its lengths, which is the event's case in `step-sized` (KeepLaws of steps). The other laws
--- that go by events get their case too: in steps `step-config`, `step_Keeps`, `step_room`, `ran-unrun` and `run-slots`; here
--- `any-list`, `any-list-does` (ListLaws) and `step-outside` (BoundLaws); in controls `noticed`.
+--   - a bar that rises is one move, by `rise_alters`;
+--   - attempts are moves by `attempt_moves` and `attempts_moves`;
+--   - moves one after the other are moves, by `moves_join`.
+-- The moves ask only that the table has its lengths, which is the event's case in `step_sized` (KeepLaws of steps). The other laws
+-- that go by events get their case too: in steps `step_config`, `step_keeps`, `step_room`, `ran_unrun` and `run_slots`; here
+-- `any_list`, `any_list_does` (ListLaws) and `step_outside` (BoundLaws); in controls `noticed`.
 use mathlib.Core.Path.{◌≡◌, refl, ap, ◌∙◌}
 use mathlib.Core.Logic.{◌⊎◌, ⊎_elim}
 use mathlib.Core.Bool.{true}

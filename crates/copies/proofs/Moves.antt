@@ -243,6 +243,6 @@ reached_move : {h w : List ℕ} {t u : Table} → Reached h t → Move t w u →
 reached_move {h} r (alters a) = rw append-nil (reached_alters r a)
 reached_move r (runs s d) = reached_runs r d
 
-pub reached_moves : {h w : List ℕ} {t u : Table} → Reached h t → Moves t w u → Reached (h ++ w) u
+pub reached_moves : {h : List ℕ} {t : Table} {w : List ℕ} {u : Table} → Reached h t → Moves t w u → Reached (h ++ w) u
 reached_moves {h} r still = rw append-nil r
 reached_moves {h} r (then {w = w} {x = x} p m) = rw (← append_assoc h w x) (reached_move (reached_moves r p) m)

@@ -44,7 +44,7 @@ first_keep (suc k) t (call ∷ calls) h =
 
 -- no slot is in it
 empty_unrun : (c : Config) (i : ℕ) → Ran (empty_table c) i → ⊥
-empty_unrun c i r = omega (arith, ltb-true (i % 32) (len_of (empty_table c) (i / 32)) (ran_held (empty_table c) i r).0, (open_empty c).no-len (i / 32))
+empty_unrun c i r = omega (arith, ltb-true (i % 32) (len_of (empty_table c) (i / 32)) (ran_held (empty_table c) i r).0, (open_empty c).no_len (i / 32))
 
 -- the first k events alone
 abbrev pub first_of : ℕ → Copy → Copy

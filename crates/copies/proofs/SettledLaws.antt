@@ -92,7 +92,7 @@ module _ (t u : Table) (sized : Sized t) (keeps : keeps_committed t u ≡ true) 
   still_run : (i : ℕ) → Ran t i → Ran u i
   still_run i r =
       let k = kept i (ran_committed t i r) in
-      rw k.still-held (eq-eqb (rank_of (slot_no u i).status) 4 (omega (arith, (ran_held t i r).1, k.not_lower, rank_most (slot_no u i).status)))
+      rw k.still_held (eq-eqb (rank_of (slot_no u i).status) 4 (omega (arith, (ran_held t i r).1, k.not_lower, rank_most (slot_no u i).status)))
 
   -- a call that runs nothing and moves no bar
   pub alters_slots : ((i : ℕ) → Ran u i → Ran t i) → u.bars ≡ t.bars → Alters t u

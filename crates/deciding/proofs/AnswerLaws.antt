@@ -2,8 +2,7 @@
 use mathlib.Core.Path.{◌≡◌, ap, ◌∙◌}
 use mathlib.Core.List.{List, ◌++◌, append-nil}
 use mathlib.Core.Bool.{Bool, true, false}
-use Prim.Native.Nat.{ℕ, ◌≤◌}
-use native.Mathlib.Omega.{arith}
+use Prim.Native.Nat.{ℕ}
 use Rattle.votes.specs.Answer.{Decided, decision_of}
 use Rattle.votes.specs.declared.answer.Decision.{Decision}
 use Rattle.votes.specs.declared.contents.Contents.{Contents}
@@ -15,15 +14,7 @@ use Rattle.layout.proofs.NumberLaws.{word_length}
 use Rattle.layout.proofs.BatchLaws.{batch_length}
 use Rattle.octets.proofs.SetLaws.{set_length}
 use Rattle.deciding.specs.Codes.{step_code, code_of}
-use Rattle.deciding.specs.Answers.{contents_width, contents_bytes, out_with, out_of}
-
--- room for the contents is room for sequence and dependency set
-pub front_fits : (whole : Bool) (n : ℕ) → contents_width whole ≤ n → 15 ≤ n
-front_fits true n h = omega arith
-front_fits false n h = h
-
-pub whole_fits : (whole : Bool) (n : ℕ) → contents_width whole ≤ n → whole ≡ true → 124 ≤ n
-whole_fits whole n h e = rw e at h
+use Rattle.deciding.specs.Answers.{contents_bytes, out_with, out_of}
 
 abbrev pub Front : List ℕ → List ℕ → Contents → Type 0
 Front l o c = Laid l o 0 (word_bytes c.seq ++ set_bytes c.deps) 15

@@ -80,11 +80,13 @@ module _ (s : List ℕ) (at : ℕ) where
 
     pub later_last : (left : ℕ) → 0 < left → b < 128 → landed at (last_group 127 b) ≡ landed at (later_in left (drop at s))
     unfolding later_in
+    later_last zero p l = elim p [ ]
     later_last (suc left) p l = rw (drop-cons s at 0 h, ← e, lt-ltb b 128 l)
 
     pub later_more : (left : ℕ) → 0 < left → 128 ≤ b → (x : Number) → x ≡ landed (at + 1) (later_in (left - 1) (drop (at + 1) s))
         → joined b x ≡ landed at (later_in left (drop at s))
     unfolding later_in
+    later_more zero p l x f = elim p [ ]
     later_more (suc left) p l x f =
         let g : suc left - 1 ≡ left = omega arith in
         rw (f, g, joins b at (later_in left (drop (at + 1) s)), add-one at, drop-cons s at 0 h, ← e, le-ltb b 128 l)
@@ -112,11 +114,13 @@ last_fits most b at next l m e = rw (le-leb 1 b l, le-leb b most m, e)
 
 pub put_last : (l : List ℕ) (at left v : ℕ) → 0 < left → v < 128 → set l at v ≡ sets l at (bytes_in left v)
 unfolding bytes_in
+put_last l at zero v p h = elim p [ ]
 put_last l at (suc left) v p h = rw (lt-ltb v 128 h)
 
 pub put_more : (l : List ℕ) (at left v : ℕ) → 0 < left → 128 ≤ v
     → sets (set l at (v % 128 + 128)) (at + 1) (bytes_in (left - 1) (v / 128)) ≡ sets l at (bytes_in left v)
 unfolding bytes_in
+put_more l at zero v p h = elim p [ ]
 put_more l at (suc left) v p h =
     let g : suc left - 1 ≡ left = omega arith in
     let k : v % 128 + 128 ≡ 128 + v % 128 = omega arith in
@@ -124,10 +128,12 @@ put_more l at (suc left) v p h =
 
 pub end_last : (at left v : ℕ) → 0 < left → v < 128 → at + 1 ≡ at + length (bytes_in left v)
 unfolding bytes_in
+end_last at zero v p h = elim p [ ]
 end_last at (suc left) v p h = rw (lt-ltb v 128 h)
 
 pub end_more : (at left v : ℕ) → 0 < left → 128 ≤ v → at + 1 + length (bytes_in (left - 1) (v / 128)) ≡ at + length (bytes_in left v)
 unfolding bytes_in
+end_more at zero v p h = elim p [ ]
 end_more at (suc left) v p h =
     let g : suc left - 1 ≡ left = omega arith in
     rw (g, le-ltb v 128 h) (omega arith)

@@ -137,7 +137,7 @@ pre_accept_waits_for {t} {p} {u} lens s =
           omega (arith, ap (λ (r : Slot). r.seq) (nulls_kept t at b held l h.col));
       at_least = omega arith;
       some = omega arith;
-      within = s.within-limit;
+      within = s.within_limit;
     })
 
 -- ---- null slots stay although the ballot test fails, and it is ignored for nothing else
@@ -208,7 +208,7 @@ heeds_each s m h =
 
 pub each_heeds : (s : Slot) (m : Message) → Heeded s m → heeds s m ≡ true
 unfolding heeds
-each_heeds s m h = rw (h.accepting, eq-eqb _ _ h.same-ballot, h.led, h.not-marked)
+each_heeds s m h = rw (h.accepting, eq-eqb _ _ h.same_ballot, h.led, h.not_marked)
 
 -- the slot with the mark, and what is put out: Committed, the log record and the broadcast exactly with at least simple marks
 pub data Counted (t : Table) (at : Place) (s : Slot) : Slot → List Record → Type 0 where

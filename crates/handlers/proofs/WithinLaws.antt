@@ -68,7 +68,7 @@ module _ (t : Table) (p : Proposal) (lens : length t.lens ≡ 7) (cols : length 
   unfolding raised_by
   values_fit PreAccept =
       rw (nulls_keys t p.message.at)
-      (union_fits t.config.n p.deps _ taken.deps (identify_fits t.keys t.config.n p.batch cols (table_fits_each t taken.heard.placed.within).keys-fit))
+      (union_fits t.config.n p.deps _ taken.deps (identify_fits t.keys t.config.n p.batch cols (table_fits_each t taken.heard.placed.within).keys_fit))
   values_fit Accept = taken.deps
   values_fit CommitNotice = taken.deps
 

@@ -83,7 +83,7 @@ typed_known t y =
 
 slot_whole : (n : ℕ) (s : Slot) → SlotTyped s → slot_fits n s ≡ true → SlotWhole s
 slot_whole n s y h =
-    let f = batch_fits_each s.batch y.four (slot_fits_each n s h).batch-fits in
+    let f = batch_fits_each s.batch y.four (slot_fits_each n s h).batch_fits in
     record {
       ballot = y.ballot;
       seq = y.seq;
@@ -103,7 +103,7 @@ pub record Alike (u t : Table) : Type 0 where
 module _ (t : Table) (h : table_fits t ≡ true) where
   config_whole : ConfigWhole t.config
   config_whole =
-      let w = (table_fits_each t h).config-fits in
+      let w = (table_fits_each t h).config_fits in
       record {
         n = omega (arith, w.seven);
         own = omega (arith, w.mine, w.seven);
@@ -115,7 +115,7 @@ module _ (t : Table) (h : table_fits t ≡ true) where
   lens_whole e = record { seven = e; each = λ i p. omega (arith, len_at_most t h i p) }
 
   bars_whole : length t.bars ≡ 7 → RowsWhole t.bars
-  bars_whole e = record { seven = e; each = λ i p. omega (arith, (table_fits_each t h).bars-fit i p, len_at_most t h i p) }
+  bars_whole e = record { seven = e; each = λ i p. omega (arith, (table_fits_each t h).bars_fit i p, len_at_most t h i p) }
 
   pub held_back : Typed t → Alike (table_at (table_bytes t)) t
   held_back y =
@@ -124,5 +124,5 @@ module _ (t : Table) (h : table_fits t ≡ true) where
         lens = same_lens t (lens_whole y.lens);
         bars = same_bars t (bars_whole y.bars);
         keys = same_keys t y.keys;
-        each = λ i p held. same_slot_lem t i p (slot_whole t.config.n (slot_no t i) (y.each i p) ((table_fits_each t h).slots-fit i p held));
+        each = λ i p held. same_slot_lem t i p (slot_whole t.config.n (slot_no t i) (y.each i p) ((table_fits_each t h).slots_fit i p held));
       }

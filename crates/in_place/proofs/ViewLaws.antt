@@ -1,7 +1,7 @@
 -- What a table that stands in bytes has, each part where it stands.
 use mathlib.Core.Path.{◌≡◌, refl, ◌∙◌}
 use mathlib.Core.List.{List}
-use mathlib.Core.Bool.{Bool, true, false, not, ◌&&◌}
+use mathlib.Core.Bool.{Bool, true, false, ◌&&◌}
 use Prim.Native.Nat.{ℕ, ◌+◌, ◌*◌, ◌-◌, ◌/◌, ◌%◌, ◌<◌}
 use native.Mathlib.Omega.{arith}
 use lib.Dec.{ltb}
@@ -54,7 +54,7 @@ module _ (l : List ℕ) where
   slot_no_at i p = each_is slot_at 142 224 i (drop 1810 l) blank_slot p ∙ rw drop-drop
 
   -- a place that a test finds held
-  pub held_place : (at : Place) {b : Bool} → b ≡ holds (table_at l) at → not b ≡ false → (at.row < 7) × (at.col < 32)
+  pub held_place : (at : Place) {b : Bool} → b ≡ holds (table_at l) at → b ≡ true → (at.row < 7) × (at.col < 32)
   held_place at e h = held_inside (table_at l) at seven_rows (passed e h)
 
   module _ {lens : List ℕ} (e : lens ≡ rows_at (drop 4 l)) where

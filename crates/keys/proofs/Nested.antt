@@ -1,4 +1,4 @@
--- The array of arrays that the key columns are, for the two functions that are walked by hand.
+-- The array of arrays that the key columns are, for a proof that walks the code by hand; none does now.
 use mathlib.Core.Path.{◌≡◌, refl, ap, ◌∙◌}
 use mathlib.Core.List.{[], ◌∷◌, List, map, map-id}
 use Prim.Native.Nat.{ℕ}

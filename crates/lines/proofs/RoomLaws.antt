@@ -70,7 +70,7 @@ module _ (t : Table) (h : table_fits t ≡ true) where
   unfolding bar_text
   bar_room row l =
       let low = len_at_most t h row l in
-      let bar = (table_fits_each t h).bars-fit row l in
+      let bar = (table_fits_each t h).bars_fit row l in
       let run = run_bar_at_most t row in
       omega (arith, pair_length (bar_of t row) 47 (run_bar t row), digits_at_most 1 (bar_of t row) (omega arith), digits_at_most 1 (run_bar t row) (omega arith))
 
@@ -78,7 +78,7 @@ module _ (t : Table) (h : table_fits t ≡ true) where
   unfolding bars_text rows_text
   bars_room =
       let n = t.config.n in
-      let seven = (table_fits_each t h).config-fits.seven in
+      let seven = (table_fits_each t h).config_fits.seven in
       let size = length_below n (λ (row : ℕ). row) in
       let rows = each_room (bar_text t) 6 (list_below n (λ row. row))
       (λ i l. let k : i < n = omega (arith, size) in rw (below_at_lem n (λ row. row) i 0 k) (bar_room i (omega arith))) in

@@ -99,7 +99,7 @@ module _ (t : Table) (at : Place) (status : LogStatus) (entries : ℕ) where
       risen led e k =
           let p = led.placed in
           let below : c < risen_bar t r = rw e k in
-          let fits = (table_fits_each t p.within).bars-fit r (rw e (placed_row p)) in
+          let fits = (table_fits_each t p.within).bars_fit r (rw e (placed_row p)) in
           (omega (arith, risen_at_most t r fits), risen_over t r c l below)
 
       go : {b : List ℕ} → BarsAfter t at status b → c < get_or b r 0 → (c < len_of t r) × (is_committed (slot_no t (32 * r + c)) ≡ true)

@@ -62,7 +62,7 @@ pub record Executes (t u : Table) (wrote : List ℕ) : Type 0 where
 module _ {t u : Table} {wrote : List ℕ} (w : Executes t u wrote) where
   -- a slot of the list had not run, and has
   pub entry_ran : (k : ℕ) → Has k wrote → (has_run t k ≡ false) × (has_run u k ≡ true)
-  entry_ran k i = (w.had-not k i, rw (w.lens, w.has-now k i, w.in_table k i))
+  entry_ran k i = (w.had_not k i, rw (w.lens, w.has_now k i, w.in_table k i))
 
   other_same : (k : ℕ) → k < 224 → (Has k wrote → ⊥) → has_run u k ≡ has_run t k
   other_same k l n = rw (w.lens, w.others k l n)
@@ -93,13 +93,13 @@ none_executes t =
 -- one after the other
 module _ {t u v : Table} {A B : List ℕ} (a : Executes t u A) (b : Executes u v B) where
   apart : (k : ℕ) → Has k A → Has k B → ⊥
-  apart k i j = clash (has_run u k) (entry_ran a k i).1 (b.had-not k j)
+  apart k i j = clash (has_run u k) (entry_ran a k i).1 (b.had_not k j)
 
   had_not_run : (k : ℕ) → Has k B → has_run t k ≡ false
   had_not_run k j = go (has_run t k) refl
     where
       go : (x : Bool) → has_run t k ≡ x → x ≡ false
-      go true e = clash (has_run u k) (ran_stays a k (b.slot k j) e) (b.had-not k j)
+      go true e = clash (has_run u k) (ran_stays a k (b.slot k j) e) (b.had_not k j)
       go false e = refl
 
   pub then_executes : Executes t v (A ++ B)
@@ -108,10 +108,10 @@ module _ {t u v : Table} {A B : List ℕ} (a : Executes t u A) (b : Executes u v
         once = once_both A B a.once b.once apart;
         slot = λ k i. ⊎_elim (a.slot k) (b.slot k) (has_either k A B i);
         in_table = λ k i. ⊎_elim (a.in_table k) (λ j. rw a.lens at (b.in_table k j)) (has_either k A B i);
-        had_not = λ k i. ⊎_elim (a.had-not k) (had_not_run k) (has_either k A B i);
+        had_not = λ k i. ⊎_elim (a.had_not k) (had_not_run k) (has_either k A B i);
         has_now = λ k i. ⊎_elim
-            (λ j. b.others k (a.slot k j) (apart k j) ∙ a.has-now k j)
-            (λ j. b.has-now k j ∙ ap executed (a.others k (b.slot k j) (λ i. apart k i j)))
+            (λ j. b.others k (a.slot k j) (apart k j) ∙ a.has_now k j)
+            (λ j. b.has_now k j ∙ ap executed (a.others k (b.slot k j) (λ i. apart k i j)))
             (has_either k A B i);
         others = λ k l n. b.others k l (λ j. n (has_right k A B j)) ∙ a.others k l (λ j. n (has_left k A B j));
         lens = b.lens ∙ a.lens;
@@ -169,7 +169,7 @@ wrote_each t (at ∷ ps) = ap (λ (x : List ℕ). written (answer_of t at) t at 
 
 risen_executes : (t : Table) (row bar : ℕ) {u : Table} {wrote : List ℕ} → Executes (with_bar t row bar) u wrote → Executes t u wrote
 risen_executes t row bar w =
-    record { once = w.once; slot = w.slot; in_table = w.in_table; had_not = w.had-not; has_now = w.has-now; others = w.others; lens = w.lens }
+    record { once = w.once; slot = w.slot; in_table = w.in_table; had_not = w.had_not; has_now = w.has_now; others = w.others; lens = w.lens }
 
 module _ (t : Table) (at : Place) where
   -- where the bar rises, what is written is what each of the attempts writes

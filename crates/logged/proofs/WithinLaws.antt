@@ -34,7 +34,7 @@ use Rattle.rising.proofs.CommittedLaws.{tail_column, risen_keeps}
 
 -- a message from myself about a slot in the table is not refused
 pub own_reply_heard : (t : Table) (at : Place) (ballot : ℕ) → Led t at → Heard t (my_reply t at ballot)
-own_reply_heard t at ballot led = record { placed = led.placed; peer = (table_fits_each t led.placed.within).config-fits.mine }
+own_reply_heard t at ballot led = record { placed = led.placed; peer = (table_fits_each t led.placed.within).config_fits.mine }
 
 pub own_reply_taken : (t : Table) (at : Place) (ballot k : ℕ) → Led t at → accept_reply t (my_reply t at ballot) ≡ refused k → ⊥
 own_reply_taken t at ballot k led e = rw e at says

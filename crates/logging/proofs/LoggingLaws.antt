@@ -47,7 +47,7 @@ use Rattle.logging.specs.Logging.{LogCalled, unchanged, on_table, log_long, log_
 -- ---- the lengths
 
 pub record Long (image ran out : List ℕ) : Type 0 where
-  pub image_long_lem : length image ≡ image_width
+  pub image_long : length image ≡ image_width
   pub ran_long : ran_width ≤ length ran
   pub out_long : output_width ≤ length out
 
@@ -55,7 +55,7 @@ pub long_each : (image ran out : List ℕ) → log_long image ran out ≡ true �
 unfolding log_long
 long_each image ran out e =
     let h = both_true _ _ (both_true (image_long image) _ e).1 in
-    record { image_long_lem = long_image image _ e; ran_long = leb-true _ _ h.0; out_long = leb-true _ _ h.1 }
+    record { image_long = long_image image _ e; ran_long = leb-true _ _ h.0; out_long = leb-true _ _ h.1 }
 
 -- ---- a log event keeps a table whole
 
@@ -74,7 +74,7 @@ module _ (t : Table) (at : Place) (w : TableWhole t) where
   risen_byte led =
       let within = led.placed.within in
       let row = placed_row led.placed in
-      omega (arith, risen_at_most t at.row ((table_fits_each t within).bars-fit at.row row), len_at_most t within at.row row)
+      omega (arith, risen_at_most t at.row ((table_fits_each t within).bars_fit at.row row), len_at_most t within at.row row)
 
   risen_whole : Led t at → TableWhole (risen_table t at.row)
   risen_whole led =
@@ -180,7 +180,7 @@ module _ (row col status : ℕ) (image order ran out : List ℕ) where
   logged_lengths =
       log_cases (λ c. (length c.image ≡ length image) × (length c.order ≡ length order) × (length c.ran ≡ length ran) × (length c.out ≡ length out))
       (λ _. (refl, refl, refl, refl)) (λ _ _. (refl, refl, refl, refl)) (refl, refl, refl, refl) (refl, refl, refl, refl)
-      (λ long. let s = settled_lengths image order ran entry.ran settles (long_each image ran out long).image-long in (s.0, s.1, s.2, laid_length entry.outcome.answer _ out))
+      (λ long. let s = settled_lengths image order ran entry.ran settles (long_each image ran out long).image_long in (s.0, s.1, s.2, laid_length entry.outcome.answer _ out))
 
   -- what a log event does to the image is what it does to the table
   pub logged_follows : Bytes image → 100 ≤ called.code → (table_at called.image ≡ entry.outcome.table) × (image_known called.image ≡ true) × (called.order ≡ list)

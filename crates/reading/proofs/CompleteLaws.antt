@@ -86,9 +86,9 @@ request_found q h =
 requests_found : {s : List ℕ} {c : Cursor} (l : List Request) {d : Cursor} → Stand s c (flat_map request_numbers l) d → requests_from (length l) s c ≡ record { requests = l; cursor = d }
 unfolding requests_from flat_map
 requests_found {s} {c} [] {d} h = ap (λ (x : Cursor). record { requests = []; cursor = x }) (stand_nil h)
-requests_found (q ∷ l) h =
+requests_found {s = s} {c = c} (q ∷ l) {d = d} h =
     let p = stand_parts (request_numbers q) (flat_map request_numbers l) h in
-    rw (request_found q p.1, requests_found l p.2)
+    rw (request_found q p.1, requests_found {c = p.0} l p.2)
 
 batch_found : {s : List ℕ} {c d : Cursor} (b : Batch) → b ≡ batch_of (present b) → b.count ≤ 4 → Stand s c (batch_numbers b) d → batch_from s c ≡ record { batch = b; cursor = d }
 unfolding batch_from

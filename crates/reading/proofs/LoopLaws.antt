@@ -65,12 +65,14 @@ with_left left s c b = foldl with_request b (map held_request (requests_from lef
 module _ (s : List ℕ) (c : Cursor) (x : RequestRead) (e : x ≡ held_request_read (request_from s c)) where
   pub requests_turn : (left : ℕ) → 0 < left → (b : Batch) → with_left (left - 1) s x.cursor (with_request b x.request) ≡ with_left left s c b
   unfolding requests_from
+  requests_turn zero h b = elim h [ ]
   requests_turn (suc left) h b =
       let g : suc left - 1 ≡ left = omega arith in
       rw (g, e)
 
   pub requests_cursor : (left : ℕ) → 0 < left → (requests_from (left - 1) s x.cursor).cursor ≡ (requests_from left s c).cursor
   unfolding requests_from
+  requests_cursor zero h = elim h [ ]
   requests_cursor (suc left) h =
       let g : suc left - 1 ≡ left = omega arith in
       rw (g, e)

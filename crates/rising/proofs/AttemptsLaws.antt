@@ -81,21 +81,21 @@ module _ (t : Table) (list : List ℕ) (from : ℕ) where
         let w = (attempts_on t a).wrote in
         let c = attempts_on u b in
         let e = attempts_append t a b in
-        let r = p.ran-is in
+        let r = p.ran_is in
         let n : from + length w + length c.wrote ≡ from + length (w ++ c.wrote) = omega (arith, length-append w c.wrote) in
         record {
-          ran_is = q.ran-is ∙ ap (λ (m : Ran). ran_from m.end (attempts_on m.table b)) r ∙ ap (λ (k : ℕ). record { table = c.table; end = k }) n ∙ sym (ap (ran_from from) e);
+          ran_is = q.ran_is ∙ ap (λ (m : Ran). ran_from m.end (attempts_on m.table b)) r ∙ ap (λ (k : ℕ). record { table = c.table; end = k }) n ∙ sym (ap (ran_from from) e);
           list_is =
-              q.list-is ∙ ap (λ (m : Ran). sets after m.end (attempts_on m.table b).wrote) r ∙ ap (λ (x : List ℕ). sets x (from + length w) c.wrote) p.list-is
+              q.list_is ∙ ap (λ (m : Ran). sets after m.end (attempts_on m.table b).wrote) r ∙ ap (λ (x : List ℕ). sets x (from + length w) c.wrote) p.list_is
               ∙ sets_append list from w c.wrote ∙ sym (ap (λ (x : Attempts). sets list from x.wrote) e);
         }
 
   -- the table after them fits, and there is room for what is left
   module _ (l : List Place) (ran : Ran) (after : List ℕ) (h : table_fits t ≡ true) (i : InRows l) (p : Written t l list from ran after) where
     pub written_fits : table_fits ran.table ≡ true
-    written_fits = ap (λ (r : Ran). table_fits r.table) p.ran-is ∙ attempts_keep t l h i
+    written_fits = ap (λ (r : Ran). table_fits r.table) p.ran_is ∙ attempts_keep t l h i
 
     pub written_room : from + unrun t ≤ length list → ran.end + unrun ran.table ≤ length after
     written_room room =
-        let n = ap length p.list-is ∙ length-sets list from (attempts_on t l).wrote in
-        omega (arith, attempts_fall t l h i, ap (λ (r : Ran). r.end) p.ran-is, ap (λ (r : Ran). unrun r.table) p.ran-is)
+        let n = ap length p.list_is ∙ length-sets list from (attempts_on t l).wrote in
+        omega (arith, attempts_fall t l h i, ap (λ (r : Ran). r.end) p.ran_is, ap (λ (r : Ran). unrun r.table) p.ran_is)

@@ -40,7 +40,7 @@ module _ (t : Table) (tail : Place) (list : List ℕ) (mid : Ran) (after : List 
   below_waits e = rw e p
 
   after_tail : mid.table ≡ (attempt_on t tail).table
-  after_tail = ap (λ (r : Ran). r.table) p.ran-is ∙ ap (λ a. a.table) (attempts_one t tail)
+  after_tail = ap (λ (r : Ran). r.table) p.ran_is ∙ ap (λ a. a.table) (attempts_one t tail)
 
   pub below_goes : is_not_yet (answer_of t tail) ≡ false → (last : Ran) (end : List ℕ) → Written mid.table (tails_below mid.table 7) after mid.end last end → Written t (attempted_from t tail) list 0 last end
   unfolding attempted_from
@@ -51,7 +51,7 @@ module _ (t : Table) (tail : Place) (list : List ℕ) (mid : Ran) (after : List 
 module _ (t : Table) (at : Place) (list : List ℕ) where
   stays : rises t at ≡ false → (record { table = t; end = 0 } ≡ ran_from 0 (on_committed t at)) × (list ≡ sets list 0 (on_committed t at).wrote)
   unfolding on_committed
-  stays e = let w = written_none t list 0 in (rw e w.ran-is, rw e w.list-is)
+  stays e = let w = written_none t list 0 in (rw e w.ran_is, rw e w.list_is)
 
   pub other_column : (at.col ≡ bar_of t at.row → ⊥) → (record { table = t; end = 0 } ≡ ran_from 0 (on_committed t at)) × (list ≡ sets list 0 (on_committed t at).wrote)
   other_column n = stays (rw (ne_eqb at.col (bar_of t at.row) n) refl)
@@ -70,7 +70,7 @@ module _ (t : Table) (at : Place) (list : List ℕ) where
 
 module _ (t : Table) (row : ℕ) (h : table_fits t ≡ true) (l : row < 7) where
   risen_low : risen_bar t row ≤ len_of t row
-  risen_low = risen_at_most t row ((table_fits_each t h).bars-fit row l)
+  risen_low = risen_at_most t row ((table_fits_each t h).bars_fit row l)
 
   pub tail_column : bar_of t row < risen_bar t row → risen_bar t row - 1 < 32
   tail_column r = omega (arith, risen_low, len_at_most t h row l)
@@ -78,7 +78,7 @@ module _ (t : Table) (row : ℕ) (h : table_fits t ≡ true) (l : row < 7) where
   bar_fits : (bar : ℕ) → bar ≤ len_of t row → (r : ℕ) → r < 7 → bar_of (with_bar t row bar) r ≤ len_of t r
   bar_fits bar b r s =
       ⊎_elim
-      (λ e. omega (arith, (table_fits_each t h).bars-fit r s))
+      (λ e. omega (arith, (table_fits_each t h).bars_fit r s))
       (λ w. omega (arith, w.1, ap (len_of t) w.0))
       (set_either t.bars row bar r)
 
@@ -86,7 +86,7 @@ module _ (t : Table) (row : ℕ) (h : table_fits t ≡ true) (l : row < 7) where
   with_bar_keeps bar b =
       let w = table_fits_each t h in
       each_table_fits (with_bar t row bar)
-      (record { config-fits = w.config-fits; lens-fit = w.lens-fit; bars-fit = bar_fits bar b; slots-fit = w.slots-fit; keys-fit = w.keys-fit })
+      (record { config_fits = w.config_fits; lens_fit = w.lens_fit; bars_fit = bar_fits bar b; slots_fit = w.slots_fit; keys_fit = w.keys_fit })
 
   pub risen_keeps : table_fits (risen_table t row) ≡ true
   risen_keeps = with_bar_keeps (risen_bar t row) risen_low

@@ -101,7 +101,7 @@ module _ (t : Table) (row : ℕ) (list : List ℕ) (from : ℕ) where
 pub written_row : (t : Table) (row k : ℕ) → k ≡ tail_number t row → (mid : Ran) (after : List ℕ) (last : Ran) (end : List ℕ)
     → last ≡ ran_from mid.end (attempts_on mid.table (place_in row k)) → end ≡ sets after mid.end (attempts_on mid.table (place_in row k)).wrote
     → Written mid.table (place_in row (tail_number t row)) after mid.end last end
-written_row t row k e mid after last end r l = rw (← e) (record { ran-is = r; list-is = l })
+written_row t row k e mid after last end r l = rw (← e) (record { ran_is = r; list_is = l })
 
 pub tails_begin : (t : Table) (list : List ℕ) (from : ℕ) → Written t (tails_below t 0) list from (record { table = t; end = from }) list
 unfolding tails_below

@@ -25,8 +25,8 @@ use Rattle.slots.specs.declared.slot.Slot.{Slot}
 pub record SlotWithin (n : ℕ) (s : Slot) : Type 0 where
   pub source_fits : s.source ≤ n
   pub deps_fit : set_fits n s.deps ≡ true
-  pub batch_fits_lem : batch_fits s.batch ≡ true
-  pub marks_fit_lem : marks_fit n s.marks ≡ true
+  pub batch_fits : batch_fits s.batch ≡ true
+  pub marks_fit : marks_fit n s.marks ≡ true
 
 pub slot_fits_each : (n : ℕ) (s : Slot) → slot_fits n s ≡ true → SlotWithin n s
 unfolding slot_fits
@@ -34,11 +34,11 @@ slot_fits_each n s h =
     let a = both_true _ _ h in
     let b = both_true _ _ a.1 in
     let d = both_true _ _ b.1 in
-    record { source_fits = leb-true _ _ a.0; deps_fit = b.0; batch_fits_lem = d.0; marks_fit_lem = d.1 }
+    record { source_fits = leb-true _ _ a.0; deps_fit = b.0; batch_fits = d.0; marks_fit = d.1 }
 
 pub each_slot_fits : (n : ℕ) (s : Slot) → SlotWithin n s → slot_fits n s ≡ true
 unfolding slot_fits
-each_slot_fits n s w = rw (le-leb _ _ w.source_fits, w.deps-fit, w.batch-fits, w.marks-fit)
+each_slot_fits n s w = rw (le-leb _ _ w.source_fits, w.deps_fit, w.batch_fits, w.marks_fit)
 
 no_marks_fit : (n : ℕ) → marks_fit n (replicate 7 false) ≡ true
 no_marks_fit n = each_marks_fit n (replicate 7 false) (λ r l m. absurd (true≢false (sym m ∙ replicate_at 7 r false)))
@@ -46,7 +46,7 @@ no_marks_fit n = each_marks_fit n (replicate 7 false) (λ r l m. absurd (true≢
 pub null_fits : (n : ℕ) → slot_fits n null_slot ≡ true
 unfolding batch_fits all_below
 null_fits n =
-    each_slot_fits n null_slot (record { source_fits = omega arith; deps_fit = empty_fits n; batch_fits_lem = refl; marks_fit_lem = no_marks_fit n })
+    each_slot_fits n null_slot (record { source_fits = omega arith; deps_fit = empty_fits n; batch_fits = refl; marks_fit = no_marks_fit n })
 
 -- what is done to a slot keeps it so
 
@@ -56,19 +56,19 @@ module _ (n : ℕ) (s : Slot) (h : slot_fits n s ≡ true) where
   stored_slot_fits ballot status seq deps batch f g =
       let w = slot_fits_each n s h in
       each_slot_fits n (stored_with s ballot status seq deps batch)
-      (record { source_fits = w.source_fits; deps_fit = f; batch_fits_lem = g; marks_fit_lem = w.marks-fit })
+      (record { source_fits = w.source_fits; deps_fit = f; batch_fits = g; marks_fit = w.marks_fit })
 
   pub heard_fits : (peer : ℕ) → peer < n → slot_fits n (heard_from s peer) ≡ true
   heard_fits peer l =
       let w = slot_fits_each n s h in
       each_slot_fits n (heard_from s peer)
-      (record { source_fits = l; deps_fit = w.deps-fit; batch_fits_lem = w.batch-fits; marks_fit_lem = w.marks-fit })
+      (record { source_fits = l; deps_fit = w.deps_fit; batch_fits = w.batch_fits; marks_fit = w.marks_fit })
 
   pub led_fits : slot_fits n (leading s) ≡ true
   led_fits =
       let w = slot_fits_each n s h in
       each_slot_fits n (leading s)
-      (record { source_fits = w.source_fits; deps_fit = w.deps-fit; batch_fits_lem = w.batch-fits; marks_fit_lem = no_marks_fit n })
+      (record { source_fits = w.source_fits; deps_fit = w.deps_fit; batch_fits = w.batch_fits; marks_fit = no_marks_fit n })
 
   pub marked_fits : (peer : ℕ) → peer < n → slot_fits n (with_mark s peer) ≡ true
   marked_fits peer l =
@@ -76,9 +76,9 @@ module _ (n : ℕ) (s : Slot) (h : slot_fits n s ≡ true) where
       each_slot_fits n (with_mark s peer)
       (record {
         source_fits = w.source_fits;
-        deps_fit = w.deps-fit;
-        batch_fits_lem = w.batch-fits;
-        marks_fit_lem = each_marks_fit n (set s.marks peer true) (λ r i m. go w.marks-fit r i m (eqb r peer) refl);
+        deps_fit = w.deps_fit;
+        batch_fits = w.batch_fits;
+        marks_fit = each_marks_fit n (set s.marks peer true) (λ r i m. go w.marks_fit r i m (eqb r peer) refl);
       })
     where
       go : marks_fit n s.marks ≡ true → (r : ℕ) → r < 7 → marked (set s.marks peer true) r ≡ true → (b : Bool) → eqb r peer ≡ b → r < n
@@ -88,4 +88,4 @@ module _ (n : ℕ) (s : Slot) (h : slot_fits n s ≡ true) where
   pub committed_fits : slot_fits n (committed s) ≡ true
   committed_fits =
       let w = slot_fits_each n s h in
-      stored_slot_fits s.ballot Committed s.seq s.deps s.batch w.deps-fit w.batch-fits
+      stored_slot_fits s.ballot Committed s.seq s.deps s.batch w.deps_fit w.batch_fits

@@ -217,7 +217,7 @@ try_slots t at list = go (attempt_refusal t at (length list)) refl
 
 -- a log event on any list
 log_slots : (t : Table) (at : Place) (status : LogStatus) (list : List ℕ) → Slots (logged_of t at status (length list)).ran (take (logged_of t at status (length list)).ran (logged_order t at status list))
-unfolding logged_of logged_order logged_on logged.orderOn
+unfolding logged_of logged_order logged_on logged.order_on
 log_slots t at status list = go (logged_refusal t at (length list)) refl
   where
     room : Led t at → (s : LogStatus) → length (entries_on s t at) ≤ 224
@@ -230,7 +230,7 @@ log_slots t at status list = go (logged_refusal t at (length list)) refl
     each led Accepting k i = absurd (has_none k i)
     each led Committed k i = (committed_executes t at led.placed.within (placed_row led.placed)).slot k i
 
-    go : (n : ℕ) → logged_refusal t at (length list) ≡ n → Slots (logged_or n status t at).ran (take (logged_or n status t at).ran (logged.orderOr n status t at list))
+    go : (n : ℕ) → logged_refusal t at (length list) ≡ n → Slots (logged_or n status t at).ran (take (logged_or n status t at).ran (logged.order_or n status t at list))
     go zero e =
         let w = logged_logged t at (length list) e in
         front_slots list (entries_on status t at) (omega (arith, w.0, room w.1 status)) (each w.1 status)

@@ -44,7 +44,7 @@ module _ (s : List ℕ) (bytes : Bytes s) (room : ℕ) (run : Run) (w : Going s 
   goes_on_lem z =
       let t = run.table in
       let k = (found_by s run).call in
-      let within = (table_fits_each t w.fits).config-fits in
+      let within = (table_fits_each t w.fits).config_fits in
       let takes = event_takes s bytes t.config.n within.seven (record { at = run.at; refusal = 0 }) z in
       let sized = step_sized t k (record { rows = w.rows; columns = w.columns }) in
       let text = event_room run (found_by s run) in
@@ -90,7 +90,7 @@ module _ (s : List ℕ) (bytes : Bytes s) (room : ℕ) (run : Run) (w : Going s 
   at_or : (b : Bool) → goes_on (found_by s run).cursor ≡ b
       → run.at < (cond b (went_on s run (found_by s run)) (stopped_run (length s) run (found_by s run).cursor.refusal)).at
   at_or true e =
-      let within = (table_fits_each run.table w.fits).config-fits in
+      let within = (table_fits_each run.table w.fits).config_fits in
       omega (arith, (event_takes s bytes run.table.config.n within.seven (record { at = run.at; refusal = 0 }) (eqb-true (found_by s run).cursor.refusal 0 e)).0)
   at_or false e = h
 
