@@ -1,0 +1,13 @@
+-- `base::marks::fit` meets its contract: no mark so far stands at n or more.
+use mathlib.Core.Path.{◌≡◌}
+use mathlib.Core.Bool.{true}
+use Prim.Native.Nat.{◌≤◌, ◌-◌}
+use Rattle.base.specs.Below.{all_below}
+use Rattle.base.specs.Marks.{mark_fits}
+use Rattle.base.proofs.marks.fit.Given as goal
+
+abbrev pub invariant-loop-r : goal.invariant-loop-r
+invariant-loop-r l = (l.n ≤ l.r) × (all_below l.r (mark_fits l.n l.marks) ≡ true)
+
+abbrev pub decreases-loop-r : goal.decreases-loop-r
+decreases-loop-r l = 7 - l.r

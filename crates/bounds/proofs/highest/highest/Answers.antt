@@ -1,0 +1,38 @@
+-- `bounds::highest::highest` meets its contract: the greatest of the rows so far.
+use Prim.Native.Nat.{max}
+use Rattle.base.proofs.Loops.{greatest_none, greatest_more}
+use Rattle.bounds.proofs.HighestLaws.{held_each}
+use Rattle.bounds.specs.Highest.{sequence_in, highest_of}
+use mathlib.Core.Path.{◌≡◌, ap, sym, ◌∙◌}
+use native.Mathlib.Omega.{arith}
+use borrow.Author.Rules.{rules}
+use Rattle.bounds.proofs.highest.highest.Goals as goal
+use Rattle.bounds.proofs.highest.highest.Goals.{else-is_held, then-is_held}
+
+pub loop-row-init : goal.loop-row-init
+loop-row-init c = (search rules, greatest_none _)
+
+pub overflow_sub-slot : goal.overflow_sub-slot
+overflow_sub-slot c =
+    let h = held_each _ _ (sym c.is_held.ensures ∙ c.if-is_held.true) in
+    omega (arith, h.0, h.1)
+
+pub bounds-table-row-then-is_held : goal.bounds-table-row-then-is_held
+bounds-table-row-then-is_held c =
+    let h = held_each _ _ (sym c.is_held.ensures ∙ c.if-is_held.true) in
+    omega (arith, h.0, h.1)
+
+pub loop-row-preserved : goal.loop-row-preserved
+loop-row-preserved c =
+    let h = c.before in
+    let o = h.before in
+    let a = o.args in
+    let row = o.loop-row.row in
+    let f = sequence_in a.table a.set in
+    (elim c.if-is_held.branch [ then-is_held t ↦ (search rules, greatest_more f row _ _ o.loop-row.invariant.1 (t.highest-is ∙ t.greater-highest.ensures ∙ ap (max o.loop-row.highest) (sym (rw (sym h.is_held.ensures ∙ t.if-is_held.true))))) | else-is_held t ↦ (search rules, greatest_more f row _ _ o.loop-row.invariant.1 (t.highest-is ∙ sym (rw (sym h.is_held.ensures ∙ t.if-is_held.false) (omega arith)))) ])
+
+pub returns : goal.returns
+unfolding highest_of
+returns c =
+    let e : c.loop-row.row ≡ 7 = omega arith in
+    rw e at c.loop-row.invariant.1

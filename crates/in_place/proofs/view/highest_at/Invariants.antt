@@ -1,0 +1,13 @@
+-- `in_place::view::highest_at` meets its contract: the greatest of the rows so far.
+use Prim.Native.Nat.{◌≤◌, ◌-◌}
+use Rattle.base.specs.Below.{greatest_below}
+use Rattle.bounds.specs.Highest.{sequence_in}
+use Rattle.image.specs.Tables.{table_at}
+use mathlib.Core.Path.{◌≡◌}
+use Rattle.in_place.proofs.view.highest_at.Given as goal
+
+abbrev pub invariant-loop-row : goal.invariant-loop-row
+invariant-loop-row l = (l.row ≤ 7) × (l.highest ≡ greatest_below l.row (sequence_in (table_at l.image) l.set))
+
+abbrev pub decreases-loop-row : goal.decreases-loop-row
+decreases-loop-row l = 7 - l.row

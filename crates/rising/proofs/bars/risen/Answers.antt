@@ -1,0 +1,28 @@
+-- `rising::bars::risen` meets its contract: from the bar on, column by column.
+use mathlib.Core.Path.{sym, ◌∙◌}
+use native.Mathlib.Omega.{arith}
+use Rattle.bounds.proofs.BoundLaws.{table_fits_each, len_at_most}
+use Rattle.rising.proofs.RisenLaws.{search_begins, search_stops, search_goes, search_ends}
+use Rattle.rising.proofs.bars.risen.Goals as goal
+
+pub loop-col-init : goal.loop-col-init
+loop-col-init c = ((table_fits_each c.args.table c.requires.table_value).bars_fit c.args.row c.requires.row_bound, search_begins c.args.table c.args.row)
+
+-- a row has at most 32 slots
+pub overflow_add-slot : goal.overflow_add-slot
+overflow_add-slot c = omega (arith, len_at_most c.args.table c.requires.table_value c.args.row c.requires.row_bound)
+
+pub offset_bounds-table-row-in-loop-col-2 : goal.offset_bounds-table-row-in-loop-col-2
+offset_bounds-table-row-in-loop-col-2 c = omega (arith, len_at_most c.args.table c.requires.table_value c.args.row c.requires.row_bound)
+
+pub bounds-table-row-in-loop-col-2 : goal.bounds-table-row-in-loop-col-2
+bounds-table-row-in-loop-col-2 c = omega (arith, len_at_most c.args.table c.requires.table_value c.args.row c.requires.row_bound)
+
+pub returns-then-rank-lt3 : goal.returns-then-rank-lt3
+returns-then-rank-lt3 c = sym (c.loop-col.invariant.1 ∙ search_stops c.args.table c.args.row c.loop-col.col c.loop-col-test.true (omega (arith, c.rank.ensures)))
+
+pub loop-col-preserved : goal.loop-col-preserved
+loop-col-preserved c = (omega arith, c.loop-col.invariant.1 ∙ search_goes c.args.table c.args.row c.loop-col.col c.loop-col-test.true (omega (arith, c.rank.ensures)))
+
+pub returns : goal.returns
+returns c = sym (c.loop-col.invariant.1 ∙ search_ends c.args.table c.args.row c.loop-col.col (omega arith))
