@@ -3,29 +3,48 @@
 // With no argument each shape is tried once, and its answer, how many slots run and which run first and last are printed.
 // Else the first argument is the number of a shape, and it is tried once for each argument: two runs that differ by an
 // argument differ by an attempt, and bench/order counts so what one costs.
+#![tactic(auto)]
+
 mod shapes; // shapes.rt: the tables
 mod text; // text.rt: what is printed
 
 use attempts::attempt::attempt;
+use std::env::FillError;
+use std::io;
+use std::rt::Env;
 use table::place::Place;
 use table::table::Table;
 
-fn main() {
-    let count = os::arg_count();
+fn main(rt: HostRuntime) -> io::Result<()> {
+    let count = arg_count(&rt);
     if count < 2 {
-        show(b"one component", shapes::full(shapes::ONE_COMPONENT));
+        show(&rt, b"one component", shapes::full(shapes::ONE_COMPONENT))?;
         show(
+            &rt,
             b"no dependencies but those of the slot asked for",
             shapes::full(shapes::NO_DEPENDENCIES),
-        );
-        show(b"a chain across the rows", shapes::full(shapes::CHAIN));
+        )?;
+        show(&rt, b"a chain across the rows", shapes::full(shapes::CHAIN))?;
         show(
+            &rt,
             b"one slot over 223 that have run",
             shapes::full(shapes::ONE_SLOT),
-        );
+        )
     } else {
-        repeat(shapes::full(digit()), count - 1);
+        repeat(&rt, shapes::full(digit(&rt)), count - 1)
     }
+}
+
+// How many arguments there are, the program's own name among them: the number of the first that is missing. Asked into one
+// byte, so that an argument costs next to nothing beside an attempt.
+fn arg_count(rt: &impl Env) -> usize {
+    let mut byte = [0u8; 1];
+    for i in 0..usize::MAX {
+        if let Err(FillError::NotPresent) = rt.arg(i, &mut byte) {
+            return i;
+        }
+    }
+    usize::MAX
 }
 
 // The slot asked for: the last of the last row.
@@ -33,34 +52,31 @@ fn asked() -> Place {
     Place { row: 6, col: 31 }
 }
 
-fn show(what: &[u8], table: Table) {
+fn show(rt: &impl Print, what: &[u8], table: Table) -> io::Result<()> {
     let mut order = [255u8; 224];
     let tried = attempt(table, asked(), &mut order);
-    text::word(what);
-    text::word(b": ");
+    text::word(rt, what)?;
+    text::word(rt, b": ")?;
     let answer = tried.answer;
-    text::answer(answer);
-    text::tried(tried.ran, &order);
+    text::answer(rt, answer)?;
+    text::tried(rt, tried.ran, &order)
 }
 
 // The digit that the first argument begins with.
-fn digit() -> u8 {
-    let mut word = io::buffer();
-    let length = os::arg(1, &mut word);
-    if length < 1 {
-        return 0;
+fn digit(rt: &impl Env) -> u8 {
+    let mut word = [0u8; 4096];
+    match rt.arg(1, &mut word) {
+        Ok(length) if 0 < length => word[0],
+        _ => 0,
     }
-    word[0]
 }
 
-fn repeat(table: Table, times: usize) {
+fn repeat(rt: &impl Print, table: Table, times: usize) -> io::Result<()> {
     let mut order = [255u8; 224];
     let mut ran: usize = 0;
-    let mut i: usize = 0;
-    while i < times {
+    for _ in 0..times {
         let tried = attempt(table, asked(), &mut order);
         ran = tried.ran;
-        i += 1;
     }
-    text::tried(ran, &order);
+    text::tried(rt, ran, &order)
 }

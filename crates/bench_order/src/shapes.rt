@@ -27,10 +27,8 @@ pub(crate) fn full(shape: u8) -> Table {
     let mut table = Table::empty(config);
     table.lens = [32; 7];
     table.bars = [32; 7];
-    let mut i: usize = 0;
-    while i < 224 {
+    for i in 0..224 {
         table.slots[i] = slot(shape, i);
-        i += 1;
     }
     table
 }

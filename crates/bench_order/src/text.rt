@@ -1,48 +1,46 @@
 // What the program prints.
 use base::answer::Answer;
-use libc::STDOUT_FILENO;
+use std::io;
 
-pub(crate) fn word(bytes: &[u8]) {
-    io::write_all(STDOUT_FILENO, bytes);
+pub(crate) fn word(rt: &impl Print, bytes: &[u8]) -> io::Result<()> {
+    rt.write_all(bytes)
 }
 
-pub(crate) fn answer(answer: Answer) {
+pub(crate) fn answer(rt: &impl Print, answer: Answer) -> io::Result<()> {
     match answer {
-        Answer::Done => word(b"done"),
-        Answer::Ignored => word(b"ignored"),
-        Answer::NotYet => word(b"notyet"),
-        Answer::Already => word(b"already"),
-        Answer::Refused { number } => refused(number),
+        Answer::Done => word(rt, b"done"),
+        Answer::Ignored => word(rt, b"ignored"),
+        Answer::NotYet => word(rt, b"notyet"),
+        Answer::Already => word(rt, b"already"),
+        Answer::Refused { number } => refused(rt, number),
     }
 }
 
-fn refused(number: u64) {
-    word(b"refused ");
-    io::print_decimal(STDOUT_FILENO, number);
+fn refused(rt: &impl Print, number: u64) -> io::Result<()> {
+    word(rt, b"refused ")?;
+    rt.print(number)
 }
 
 // How many slots have run, the first of them and the last.
-pub(crate) fn tried(ran: usize, order: &[u8; 224]) {
-    word(b" ");
-    io::print_decimal(STDOUT_FILENO, ran as u64);
+pub(crate) fn tried(rt: &impl Print, ran: usize, order: &[u8; 224]) -> io::Result<()> {
+    word(rt, b" ")?;
+    rt.print(ran)?;
     if ran < 1 {
-        word(b"\n");
-        return;
+        return word(rt, b"\n");
     }
     if 224 < ran {
-        word(b"\n");
-        return;
+        return word(rt, b"\n");
     }
-    word(b", first ");
-    place(order[0]);
-    word(b", last ");
-    place(order[ran - 1]);
-    word(b"\n");
+    word(rt, b", first ")?;
+    place(rt, order[0])?;
+    word(rt, b", last ")?;
+    place(rt, order[ran - 1])?;
+    word(rt, b"\n")
 }
 
 // A slot as row.column.
-fn place(entry: u8) {
-    io::print_decimal(STDOUT_FILENO, (entry / 32) as u64);
-    word(b".");
-    io::print_decimal(STDOUT_FILENO, (entry % 32) as u64);
+fn place(rt: &impl Print, entry: u8) -> io::Result<()> {
+    rt.print(entry / 32)?;
+    word(rt, b".")?;
+    rt.print(entry % 32)
 }

@@ -6,6 +6,7 @@ use decisions::fast;
 use deps::batches::Batch;
 use recovering::recovery;
 use recovering::recovery::Prepare;
+use std::io;
 
 fn three() -> Config {
     Config {
@@ -35,7 +36,7 @@ fn columns(a: [u8; 7], b: [u8; 7], c: [u8; 7], d: [u8; 7]) -> [[u8; 7]; 7] {
     [a, b, c, d, none, none, none]
 }
 
-pub(crate) fn fast_decisions() {
+pub(crate) fn fast_decisions(rt: &impl Print) -> io::Result<()> {
     let none = rows(0, 0, 0);
     let empty = columns(none, none, none, none);
     let two = marks(true, true, false, false);
@@ -43,6 +44,7 @@ pub(crate) fn fast_decisions() {
     let silent = marks(false, false, false, false);
     let fours = numbers(4, 4, 4, 0);
     fast(
+        rt,
         b"0, 1 say (4,[_,_,_])",
         three(),
         false,
@@ -50,8 +52,9 @@ pub(crate) fn fast_decisions() {
         fours,
         empty,
         silent,
-    );
+    )?;
     fast(
+        rt,
         b"0, 1 say (4,[_,_,_]), 2 silent",
         three(),
         false,
@@ -59,8 +62,9 @@ pub(crate) fn fast_decisions() {
         fours,
         empty,
         marks(false, false, true, false),
-    );
+    )?;
     fast(
+        rt,
         b"0, 1, 2 say (4,[_,_,_])",
         three(),
         false,
@@ -68,9 +72,10 @@ pub(crate) fn fast_decisions() {
         fours,
         empty,
         silent,
-    );
+    )?;
     let crossed = columns(rows(2, 0, 0), rows(0, 3, 0), none, none);
     fast(
+        rt,
         b"0 says (4,[1,_,_]), 1 says (5,[_,2,_])",
         three(),
         false,
@@ -78,7 +83,7 @@ pub(crate) fn fast_decisions() {
         numbers(4, 5, 0, 0),
         crossed,
         silent,
-    );
+    )?;
     let four = Config {
         n: 4,
         own: 0,
@@ -89,6 +94,7 @@ pub(crate) fn fast_decisions() {
     let y = rows(0, 3, 0);
     let pairs = columns(x, y, y, x);
     fast(
+        rt,
         b"N 4, super 2: 0, 3 say (4,[1,_,_]), 1, 2 say (5,[_,2,_])",
         four,
         false,
@@ -96,8 +102,9 @@ pub(crate) fn fast_decisions() {
         numbers(4, 5, 5, 4),
         pairs,
         silent,
-    );
+    )?;
     fast(
+        rt,
         b"0, 1, 2 say (4,[_,_,_]), fast path avoided",
         three(),
         true,
@@ -105,8 +112,9 @@ pub(crate) fn fast_decisions() {
         fours,
         empty,
         silent,
-    );
+    )?;
     fast(
+        rt,
         b"0 says (4,[_,_,_])",
         three(),
         false,
@@ -114,11 +122,11 @@ pub(crate) fn fast_decisions() {
         fours,
         empty,
         silent,
-    );
+    )
 }
 
 // Each is refused for the first reason in the order of the numbers.
-pub(crate) fn refusals() {
+pub(crate) fn refusals(rt: &impl Print) -> io::Result<()> {
     let none = rows(0, 0, 0);
     let far = rows(33, 0, 0);
     let empty = columns(none, none, none, none);
@@ -134,6 +142,7 @@ pub(crate) fn refusals() {
         sup: 4,
     };
     fast(
+        rt,
         b"super 4 of 3, a reply of 3, column 32, sequence 2^32",
         no_quorum,
         false,
@@ -141,8 +150,9 @@ pub(crate) fn refusals() {
         over,
         long,
         silent,
-    );
+    )?;
     fast(
+        rt,
         b"a reply of 3, column 32, sequence 2^32",
         three(),
         false,
@@ -150,8 +160,9 @@ pub(crate) fn refusals() {
         over,
         long,
         silent,
-    );
+    )?;
     fast(
+        rt,
         b"column 32, sequence 2^32",
         three(),
         false,
@@ -159,9 +170,19 @@ pub(crate) fn refusals() {
         over,
         long,
         silent,
-    );
-    fast(b"sequence 2^32", three(), false, two, over, empty, silent);
+    )?;
     fast(
+        rt,
+        b"sequence 2^32",
+        three(),
+        false,
+        two,
+        over,
+        empty,
+        silent,
+    )?;
+    fast(
+        rt,
         b"sequence 2^32 of a replica that has not replied",
         three(),
         false,
@@ -169,10 +190,11 @@ pub(crate) fn refusals() {
         over,
         empty,
         silent,
-    );
+    )
 }
 
 fn fast(
+    rt: &impl Print,
     what: &[u8],
     config: Config,
     avoided: bool,
@@ -180,42 +202,55 @@ fn fast(
     seqs: [u64; 7],
     deps: [[u8; 7]; 7],
     silent: [bool; 7],
-) {
-    text::word(what);
-    text::word(b": ");
-    text::decision(fast::decision(config, avoided, replied, seqs, deps, silent));
-    text::end_line();
+) -> io::Result<()> {
+    text::word(rt, what)?;
+    text::word(rt, b": ")?;
+    text::decision(
+        rt,
+        fast::decision(config, avoided, replied, seqs, deps, silent),
+    )?;
+    text::end_line(rt)
 }
 
 // Votes on row 0 by 1 and 2, who have acked, at the default ballot.
-pub(crate) fn recoveries() {
+pub(crate) fn recoveries(rt: &impl Print) -> io::Result<()> {
     recover(
+        rt,
         b"1, 2 PreAccepting (4,[1,_,_],put 5)",
         Status::PreAccepting,
         Status::PreAccepting,
         numbers(0, 4, 4, 0),
-    );
+    )?;
     recover(
+        rt,
         b"1 PreAccepting (4,[1,_,_],put 5), 2 Null",
         Status::PreAccepting,
         Status::Null,
         numbers(0, 4, 0, 0),
-    );
+    )?;
     recover(
+        rt,
         b"1 Committed (4,[1,_,_],put 5), 2 Committed (6,[1,_,_],put 5)",
         Status::Committed,
         Status::Committed,
         numbers(0, 4, 6, 0),
-    );
+    )?;
     recover(
+        rt,
         b"1, 2 Null",
         Status::Null,
         Status::Null,
         numbers(0, 0, 0, 0),
-    );
+    )
 }
 
-fn recover(what: &[u8], one: Status, two: Status, seqs: [u64; 7]) {
+fn recover(
+    rt: &impl Print,
+    what: &[u8],
+    one: Status,
+    two: Status,
+    seqs: [u64; 7],
+) -> io::Result<()> {
     let prepare = Prepare {
         row: 0,
         highest: 7,
@@ -233,28 +268,16 @@ fn recover(what: &[u8], one: Status, two: Status, seqs: [u64; 7]) {
     ];
     let deps = columns(rows(2, 0, 0), rows(2, 0, 0), rows(2, 0, 0), rows(0, 0, 0));
     let batches = [Batch::of(sets::put(5)); 7];
-    text::word(what);
-    text::word(b": the Rust's ");
-    text::decision(recovery::rust_choice(
-        three(),
-        prepare,
-        acks,
-        acks,
-        statuses,
-        seqs,
-        deps,
-        batches,
-    ));
-    text::word(b", the paper's ");
-    text::decision(recovery::paper_choice(
-        three(),
-        prepare,
-        acks,
-        acks,
-        statuses,
-        seqs,
-        deps,
-        batches,
-    ));
-    text::end_line();
+    text::word(rt, what)?;
+    text::word(rt, b": the Rust's ")?;
+    text::decision(
+        rt,
+        recovery::rust_choice(three(), prepare, acks, acks, statuses, seqs, deps, batches),
+    )?;
+    text::word(rt, b", the paper's ")?;
+    text::decision(
+        rt,
+        recovery::paper_choice(three(), prepare, acks, acks, statuses, seqs, deps, batches),
+    )?;
+    text::end_line(rt)
 }

@@ -7,6 +7,7 @@ use handlers::{lead, prepare, replies};
 use outcomes::message::{Message, Proposal};
 use outcomes::outcome::Outcome;
 use proposing::proposals;
+use std::io;
 use table::place::Place;
 use table::table::Table;
 
@@ -36,154 +37,194 @@ pub(crate) fn put(message: Message, seq: u64, key: u16) -> Proposal {
 }
 
 // What a call did to its slot, and the table after it.
-fn show(what: &[u8], at: Place, outcome: Outcome) -> Table {
-    text::word(what);
-    text::word(b": ");
+fn show(rt: &impl Print, what: &[u8], at: Place, outcome: Outcome) -> io::Result<Table> {
+    text::word(rt, what)?;
+    text::word(rt, b": ")?;
     let answer = outcome.answer;
-    text::answer(answer);
+    text::answer(rt, answer)?;
     let table = outcome.table;
-    text::slot_at(table, at);
+    text::slot_at(rt, table, at)?;
     let output = outcome.output;
-    text::output(output);
-    text::end_line();
-    table
+    text::output(rt, output)?;
+    text::end_line(rt)?;
+    Ok(table)
 }
 
 // Each case goes on with the table that the one before it leaves, so that one table is kept at a time.
-pub(crate) fn pre_accepts() {
+pub(crate) fn pre_accepts(rt: &impl Print) -> io::Result<()> {
     let mut table = empty();
     let head = from(1, 0, 0, 5);
     let at = head.at;
     let sent = put(head, 1, 5);
     table = show(
+        rt,
         b"PreAccept 0.0, ballot 5, sequence 1",
         at,
         proposals::pre_accept(table, sent),
-    );
-    table = show(b"sent again", at, proposals::pre_accept(table, sent));
+    )?;
+    table = show(rt, b"sent again", at, proposals::pre_accept(table, sent))?;
     let late = put(from(1, 0, 0, 4), 1, 5);
-    show(b"with ballot 4", at, proposals::pre_accept(table, late));
+    show(rt, b"with ballot 4", at, proposals::pre_accept(table, late))?;
+    Ok(())
 }
 
-pub(crate) fn prepares() {
+pub(crate) fn prepares(rt: &impl Print) -> io::Result<()> {
     let mut table = empty();
     let third = from(2, 1, 2, 0);
     let last = third.at;
     table = show(
+        rt,
         b"ExpPrepare 1.2, ballot 0",
         last,
         prepare::exp_prepare(table, third),
-    );
+    )?;
     let second = from(2, 1, 1, 0);
     let middle = second.at;
     table = show(
+        rt,
         b"then ExpPrepare 1.1, ballot 0",
         middle,
         prepare::exp_prepare(table, second),
-    );
+    )?;
     let first = from(2, 1, 0, 9);
     let at = first.at;
     table = show(
+        rt,
         b"then ExpPrepare 1.0, ballot 9",
         at,
         prepare::exp_prepare(table, first),
-    );
+    )?;
     let low = put(from(1, 1, 0, 1), 1, 5);
     show(
+        rt,
         b"then Accept 1.0, ballot 1",
         at,
         proposals::accept(table, low),
-    );
+    )?;
+    Ok(())
 }
 
 // The last column and key, and the first past them.
-pub(crate) fn edges() {
+pub(crate) fn edges(rt: &impl Print) -> io::Result<()> {
     let mut table = empty();
     let last = from(1, 0, 31, 5);
     let at = last.at;
     table = show(
+        rt,
         b"PreAccept 0.31, key 255",
         at,
         proposals::pre_accept(table, put(last, 1, 255)),
-    );
+    )?;
     table = show(
+        rt,
         b"then key 256",
         at,
         proposals::pre_accept(table, put(last, 1, 256)),
-    );
+    )?;
     let past = from(1, 0, 32, 5);
     let none = past.at;
     show(
+        rt,
         b"then PreAccept 0.32",
         none,
         proposals::pre_accept(table, put(past, 1, 5)),
-    );
+    )?;
+    Ok(())
 }
 
 // A slot that is led is committed by the second mark.
-pub(crate) fn marks() {
+pub(crate) fn marks(rt: &impl Print) -> io::Result<()> {
     let mut table = empty();
     let head = from(1, 0, 0, 5);
     let at = head.at;
-    table = show(b"Lead 0.0, absent", at, lead::lead(table, at));
-    table = show(b"Accept 0.0", at, proposals::accept(table, put(head, 1, 5)));
+    table = show(rt, b"Lead 0.0, absent", at, lead::lead(table, at))?;
     table = show(
+        rt,
+        b"Accept 0.0",
+        at,
+        proposals::accept(table, put(head, 1, 5)),
+    )?;
+    table = show(
+        rt,
         b"AcceptReply of 1, not led",
         at,
         replies::accept_reply(table, head),
-    );
-    table = show(b"Lead 0.0", at, lead::lead(table, at));
-    table = show(b"AcceptReply of 1", at, replies::accept_reply(table, head));
+    )?;
+    table = show(rt, b"Lead 0.0", at, lead::lead(table, at))?;
     table = show(
+        rt,
+        b"AcceptReply of 1",
+        at,
+        replies::accept_reply(table, head),
+    )?;
+    table = show(
+        rt,
         b"AcceptReply of 1 again",
         at,
         replies::accept_reply(table, head),
-    );
+    )?;
     let other = from(2, 0, 0, 5);
-    show(b"AcceptReply of 2", at, replies::accept_reply(table, other));
+    show(
+        rt,
+        b"AcceptReply of 2",
+        at,
+        replies::accept_reply(table, other),
+    )?;
+    Ok(())
 }
 
 // The sequence given is looked at before the ballot, the one to be stored after it; neither adds a slot.
-pub(crate) fn sequences() {
+pub(crate) fn sequences(rt: &impl Print) -> io::Result<()> {
     let mut table = empty();
     let head = from(1, 0, 0, 5);
     let at = head.at;
     let over = put(head, 4294967296, 5);
     table = show(
+        rt,
         b"CommitNotice 0.0, sequence 2^32",
         at,
         proposals::commit_notice(table, over),
-    );
+    )?;
     let most = put(head, 4294967295, 5);
     table = show(
+        rt,
         b"CommitNotice 0.0, sequence 2^32 - 1",
         at,
         proposals::commit_notice(table, most),
-    );
+    )?;
     let next = from(1, 0, 1, 5);
     let second = next.at;
     let small = put(next, 1, 5);
     table = show(
+        rt,
         b"then PreAccept 0.1",
         second,
         proposals::pre_accept(table, small),
-    );
-    show(b"then Accept 0.1", second, proposals::accept(table, small));
+    )?;
+    show(
+        rt,
+        b"then Accept 0.1",
+        second,
+        proposals::accept(table, small),
+    )?;
+    Ok(())
 }
 
 // A table of a configuration that is refused is refused by every entry.
-pub(crate) fn opens() {
+pub(crate) fn opens(rt: &impl Print) -> io::Result<()> {
     let opened = open::open(3, 3, 2, 3);
     let answer = opened.answer;
-    text::word(b"own 3 of 3: ");
-    text::answer(answer);
-    text::end_line();
+    text::word(rt, b"own 3 of 3: ")?;
+    text::answer(rt, answer)?;
+    text::end_line(rt)?;
     let head = from(9, 9, 99, 5);
     let at = head.at;
     let table = opened.table;
     show(
+        rt,
         b"then AcceptReply of 9 for 9.99",
         at,
         replies::accept_reply(table, head),
-    );
+    )?;
+    Ok(())
 }

@@ -5,25 +5,26 @@ use deps::batches::Batch;
 use deps::sets::DepSet;
 use outcomes::message::{Message, Proposal};
 use proposing::proposals;
+use std::io;
 use table::place::Place;
 use table::table::Table;
 
-pub(crate) fn attempts() {
+pub(crate) fn attempts(rt: &impl Print) -> io::Result<()> {
     let mut table = messages::empty();
-    table = tried(b"Attempt 1.2, absent", table, 1, 2);
+    table = tried(rt, b"Attempt 1.2, absent", table, 1, 2)?;
     // the rules' own example: two slots that name each other
     table = committed(table, messages::from(1, 0, 0, 1), 2, [0, 1, 0, 0, 0, 0, 0]);
     table = committed(table, messages::from(1, 1, 0, 1), 1, [1, 0, 0, 0, 0, 0, 0]);
-    table = tried(b"0.0 and 1.0 committed, Attempt 1.0", table, 1, 0);
+    table = tried(rt, b"0.0 and 1.0 committed, Attempt 1.0", table, 1, 0)?;
     table.bars[0] = 1;
-    table = tried(b"bar of row 0 at 1, Attempt 0.0", table, 0, 0);
+    table = tried(rt, b"bar of row 0 at 1, Attempt 0.0", table, 0, 0)?;
     table.bars[1] = 1;
-    table = tried(b"bar of row 1 at 1, Attempt 1.0", table, 1, 0);
-    table = tried(b"again", table, 1, 0);
-    table = tried(b"then Attempt 0.0", table, 0, 0);
-    table = tried(b"then Attempt 3.0", table, 3, 0);
-    table = tried(b"then Attempt 0.32", table, 0, 32);
-    short(table);
+    table = tried(rt, b"bar of row 1 at 1, Attempt 1.0", table, 1, 0)?;
+    table = tried(rt, b"again", table, 1, 0)?;
+    table = tried(rt, b"then Attempt 0.0", table, 0, 0)?;
+    table = tried(rt, b"then Attempt 3.0", table, 3, 0)?;
+    table = tried(rt, b"then Attempt 0.32", table, 0, 32)?;
+    short(rt, table)
 }
 
 // A slot that puts key 5, with a dependency set of these numbers.
@@ -40,26 +41,26 @@ pub(crate) fn committed(table: Table, message: Message, seq: u64, cols: [u8; 7])
 }
 
 // What the attempt answers, and the slots run; the table after it.
-fn tried(what: &[u8], table: Table, row: usize, col: usize) -> Table {
+fn tried(rt: &impl Print, what: &[u8], table: Table, row: usize, col: usize) -> io::Result<Table> {
     let at = Place { row: row, col: col };
     let mut order = [0u8; 224];
     let attempted = attempt(table, at, &mut order);
-    text::word(what);
-    text::word(b": ");
+    text::word(rt, what)?;
+    text::word(rt, b": ")?;
     let answer = attempted.answer;
-    text::answer(answer);
-    text::ran(attempted.ran, order[0], order[1]);
-    text::end_line();
-    attempted.table
+    text::answer(rt, answer)?;
+    text::ran(rt, attempted.ran, order[0], order[1])?;
+    text::end_line(rt)?;
+    Ok(attempted.table)
 }
 
 // With a list of 223 entries.
-fn short(table: Table) {
+fn short(rt: &impl Print, table: Table) -> io::Result<()> {
     let at = Place { row: 3, col: 32 };
     let mut order = [0u8; 223];
     let attempted = attempt(table, at, &mut order);
-    text::word(b"then Attempt 3.32 with a list of 223: ");
+    text::word(rt, b"then Attempt 3.32 with a list of 223: ")?;
     let answer = attempted.answer;
-    text::answer(answer);
-    text::end_line();
+    text::answer(rt, answer)?;
+    text::end_line(rt)
 }

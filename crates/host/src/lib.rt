@@ -1,4 +1,7 @@
-// The pure functions for a host in C or Rust: numbers and byte slices in, a number and bytes out.
+// The pure functions for a host in C or Rust: numbers and byte slices in, a number and bytes out. C links
+// them by the crate host_c.
+#![tactic(auto)]
+
 pub mod union; // union.rt: the union of two dependency sets
 pub mod fast; // fast.rt: the fast decision on replies
 pub mod recovery; // recovery.rt: both recovery choices on votes

@@ -18,16 +18,14 @@ use messaging::opening::open_on;
 
 // An empty table of this population, own number, simple and super quorum. Answers 100, and the image is written; 0 where it
 // has another length, 1 where the configuration is outside the bounds, and it stays as it was.
-#[unsafe(no_mangle)]
-pub extern "C" fn nj_open(n: u64, own: u64, simple: u64, sup: u64, image: &mut [u8]) -> u64
+pub fn nj_open(n: u64, own: u64, simple: u64, sup: u64, image: &mut [u8]) -> u64
     ensures result { result ≡ open_code n own simple sup image.old }
     ensures table { image.new ≡ open_image n own simple sup image.old }
 {
     open_on(n, own, simple, sup, image)
 }
 
-#[unsafe(no_mangle)]
-pub extern "C" fn nj_pre_accept(
+pub fn nj_pre_accept(
     image: &mut [u8],
     peer: u64,
     row: u64,
@@ -52,8 +50,7 @@ pub extern "C" fn nj_pre_accept(
     )
 }
 
-#[unsafe(no_mangle)]
-pub extern "C" fn nj_accept(
+pub fn nj_accept(
     image: &mut [u8],
     peer: u64,
     row: u64,
@@ -78,8 +75,7 @@ pub extern "C" fn nj_accept(
     )
 }
 
-#[unsafe(no_mangle)]
-pub extern "C" fn nj_commit_notice(
+pub fn nj_commit_notice(
     image: &mut [u8],
     peer: u64,
     row: u64,
@@ -104,8 +100,7 @@ pub extern "C" fn nj_commit_notice(
     )
 }
 
-#[unsafe(no_mangle)]
-pub extern "C" fn nj_accept_reply(
+pub fn nj_accept_reply(
     image: &mut [u8],
     peer: u64,
     row: u64,
@@ -120,8 +115,7 @@ pub extern "C" fn nj_accept_reply(
     ask(Handler::AcceptReply, peer, row, col, ballot, image, out)
 }
 
-#[unsafe(no_mangle)]
-pub extern "C" fn nj_exp_prepare(
+pub fn nj_exp_prepare(
     image: &mut [u8],
     peer: u64,
     row: u64,
@@ -137,8 +131,7 @@ pub extern "C" fn nj_exp_prepare(
 }
 
 // This copy leads the slot from now on. It puts out nothing.
-#[unsafe(no_mangle)]
-pub extern "C" fn nj_lead(image: &mut [u8], row: u64, col: u64, out: &mut [u8]) -> u64
+pub fn nj_lead(image: &mut [u8], row: u64, col: u64, out: &mut [u8]) -> u64
     ensures result { result ≡ (plain_call (λ t. lead_slot t (place_of row col)) image.old out.old).code }
     ensures table { image.new ≡ (plain_call (λ t. lead_slot t (place_of row col)) image.old out.old).image }
     ensures bytes { out.new ≡ (plain_call (λ t. lead_slot t (place_of row col)) image.old out.old).out }

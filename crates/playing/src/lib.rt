@@ -1,31 +1,51 @@
 // A trace read from a file and run, and what came of it printed: reading, running and printing, and nothing is decided here.
-ghost use Rattle.io.specs.Counts.{IsPrefixLen};
+#![tactic(auto)]
 
-use libc::STDOUT_FILENO;
+ghost use Rattle.std.specs.Io.{ReadsAtMost};
+
+use std::io;
+use std::io::Read;
 use trace::run::{ROOM, run};
 
 // One byte more than the longest trace has, so that a longer one is seen to be longer.
 const MOST: usize = 65537;
 
 // Reads the file to its end, runs what it holds and prints the text. A file that cannot be read is said to be so by its name.
-pub fn play(file: i32, name: &[u8]) {
+pub fn play<R: Read>(rt: &(impl Print + Eprint), file: &mut R, name: &str) -> io::Result<()> {
     let mut room = [0u8; MOST];
-    let count = read(file, &mut room);
-    if !is_at_end(file) {
-        os::fail(name);
-        return;
-    }
+    let count = match read_all(file, &mut room) {
+        Ok(count) => count,
+        Err(error) => return eprintln!(rt; "{name}: {error}"),
+    };
     let mut text = [0u8; ROOM];
     let end = run_to(&room[..count], &mut text);
-    print(&text, end);
+    print(rt, &text, end)
 }
 
-// How much of the room is filled. Here and below the room is lent as an array, since to lend it as a slice would take a proof
-// that counts its bytes one by one.
-fn read(file: i32, room: &mut [u8; MOST]) -> usize
-    ensures { IsPrefixLen result room.new }
+// How much of the room is filled, once the file is read to its end. A file with no end is given up on as std gives up on one.
+fn read_all<R: Read>(file: &mut R, room: &mut [u8; MOST]) -> io::Result<usize>
+    ensures { ReadsAtMost result room.new }
 {
-    io::read_full(file, room)
+    let count = read(file, room)?;
+    if !is_at_end(file)? {
+        return Err(io::Error::from(io::ErrorKind::TimedOut));
+    }
+    Ok(count)
+}
+
+// How much of the room is filled.
+fn read<R: Read>(file: &mut R, room: &mut [u8; MOST]) -> io::Result<usize>
+    ensures { ReadsAtMost result room.new }
+{
+    let mut count: usize = 0;
+    while count < MOST {
+        let got = file.read(&mut room[count..])?;
+        if got == 0 {
+            break;
+        }
+        count += got;
+    }
+    Ok(count)
 }
 
 // The end of the text.
@@ -34,36 +54,29 @@ fn run_to(trace: &[u8], text: &mut [u8; ROOM]) -> usize {
     ran.end
 }
 
-// Reads what is left, since whoever writes it may wait for that; false where it cannot be read. A count that falls ends the
-// loop, whatever the file gives.
-fn is_at_end(file: i32) -> bool {
-    let mut turns = u64::MAX;
-    while 0 < turns {
-        let got = read_some(file);
-        if got < 0 {
-            return false;
+// Reads what is left, since whoever writes it may wait for that. The turns are counted, so that the loop ends whatever the
+// file gives; false where they are used up.
+fn is_at_end<R: Read>(file: &mut R) -> io::Result<bool> {
+    for _ in 0..u64::MAX {
+        if read_some(file)? == 0 {
+            return Ok(true);
         }
-        if got == 0 {
-            return true;
-        }
-        turns -= 1;
     }
-    false
+    Ok(false)
 }
 
-fn read_some(file: i32) -> isize {
-    let mut buffer = io::large_buffer();
-    libc::read(file, &mut buffer)
+fn read_some<R: Read>(file: &mut R) -> io::Result<usize> {
+    let mut buffer = [0u8; 65536];
+    file.read(&mut buffer)
 }
 
-fn print(text: &[u8; ROOM], end: usize) {
-    print_first(text, end);
+fn print(rt: &impl Print, text: &[u8; ROOM], end: usize) -> io::Result<()> {
+    print_first(rt, text, end)
 }
 
-fn print_first(text: &[u8], end: usize) {
+fn print_first(rt: &impl Print, text: &[u8], end: usize) -> io::Result<()> {
     if end <= text.len() {
-        if !io::write_all(STDOUT_FILENO, &text[..end]) {
-            os::fail(b"standard output");
-        }
+        rt.write_all(&text[..end])?;
     }
+    Ok(())
 }

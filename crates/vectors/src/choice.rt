@@ -11,7 +11,7 @@ use host::recovery::{nj_paper_choice, nj_rust_choice};
 use recovering::recovery::Rule;
 
 // The row of the slot, the highest ballot that was voted at, and the row's default ballot.
-#[derive(Drop)]
+#[derive(Clone, Copy)]
 pub struct Prepare {
     pub row: u64,
     pub highest: u64,
@@ -76,10 +76,8 @@ fn read_votes(list: &[u8], at: usize, n: u64, votes: &mut [u8]) -> usize
     let count = number_at(list, at, 7);
     let voted = count.value;
     let mut next = count.next;
-    let mut i: u64 = 0;
-    while i < voted {
+    for _ in 0..voted {
         next = read_vote(list, next, n, votes);
-        i += 1;
     }
     next
 }

@@ -9,7 +9,7 @@ use outcomes::output::Record;
 use slots::slot::Slot;
 
 // The status by its rank.
-#[derive(Drop)]
+#[derive(Clone, Copy)]
 pub struct Contents {
     pub ballot: u64,
     pub status: u64,
@@ -18,7 +18,7 @@ pub struct Contents {
     pub batch: Batch,
 }
 
-#[derive(Drop)]
+#[derive(Clone, Copy)]
 pub struct ReadContents {
     pub contents: Contents,
     pub next: usize,

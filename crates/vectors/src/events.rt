@@ -11,7 +11,7 @@ use table::place::Place;
 
 // 1 PreAccept, 2 Accept, 3 CommitNotice, 4 AcceptReply, 5 ExpPrepare, 6 Logged, 7 Attempt, 8 Lead. From the fourth on they
 // have no use for all of the proposal. The status is that of a Logged.
-#[derive(Drop)]
+#[derive(Clone, Copy)]
 pub struct Event {
     pub tag: u64,
     pub proposal: Proposal,
@@ -19,13 +19,13 @@ pub struct Event {
     pub next: usize,
 }
 
-#[derive(Drop)]
+#[derive(Clone, Copy)]
 pub struct ReadPlace {
     pub place: Place,
     pub next: usize,
 }
 
-#[derive(Drop)]
+#[derive(Clone, Copy)]
 pub struct ReadMessage {
     pub message: Message,
     pub next: usize,

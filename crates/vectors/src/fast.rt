@@ -52,10 +52,8 @@ fn read_replies(list: &[u8], at: usize, n: u64, replies: &mut [u8]) -> usize
     let count = number_at(list, at, 7);
     let replied = count.value;
     let mut next = count.next;
-    let mut i: u64 = 0;
-    while i < replied {
+    for _ in 0..replied {
         next = read_reply(list, next, n, replies);
-        i += 1;
     }
     next
 }

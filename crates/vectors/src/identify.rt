@@ -15,7 +15,7 @@ const DONE: u64 = 100;
 const SLOTS: u64 = 224;
 
 // A batch, and the slot that it is stored in.
-#[derive(Drop)]
+#[derive(Clone, Copy)]
 pub struct Store {
     pub row: usize,
     pub col: usize,
@@ -29,13 +29,11 @@ pub(crate) fn case(list: &[u8], at: usize) -> Outcome {
     let stores = count.value;
     let mut keys = Keys::empty();
     let mut next = count.next;
-    let mut i: u64 = 0;
-    while i < stores {
+    for _ in 0..stores {
         let store = store_at(list, next);
         let batch = store.batch;
         keys = keys.refresh(store.row, store.col, batch);
         next = store.next;
-        i += 1;
     }
     identified(list, next, population.value, keys)
 }

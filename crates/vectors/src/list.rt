@@ -5,7 +5,7 @@ ghost use Rattle.std.specs.Prelude.{◌≤◌};
 pub(crate) const LOST: usize = usize::MAX;
 
 // A number and the place after it: 0 and LOST where none can be read.
-#[derive(Drop)]
+#[derive(Clone, Copy)]
 pub struct Number {
     pub value: u64,
     pub next: usize,
@@ -19,29 +19,28 @@ impl Number {
 }
 
 // A number with one digit more, if there is one.
-#[derive(Drop)]
+#[derive(Clone, Copy)]
 enum Longer {
     To(u64),
     Nothing,
 }
 
 pub(crate) fn first_line(list: &[u8]) -> &[u8] {
-    let mut end: usize = 0;
-    while end < list.len() && list[end] != b'\n' {
-        end += 1;
+    for (end, byte) in list.iter().enumerate() {
+        if *byte == b'\n' {
+            return &list[..end];
+        }
     }
-    &list[..end]
+    list
 }
 
 // The place after the empty line that ends the head.
 pub(crate) fn after_head(list: &[u8]) -> usize {
     let mut was_newline = false;
-    let mut at: usize = 0;
-    while at < list.len() {
-        let newline = list[at] == b'\n';
-        at += 1;
+    for (at, byte) in list.iter().enumerate() {
+        let newline = *byte == b'\n';
         if newline && was_newline {
-            return at;
+            return at + 1;
         }
         was_newline = newline;
     }
@@ -53,8 +52,7 @@ pub(crate) fn number_at(list: &[u8], at: usize, most: u64) -> Number
     ensures { result.value ≤ most }
 {
     let mut value: u64 = 0;
-    let mut end = at;
-    while end < list.len() {
+    for end in at..list.len() {
         let byte = list[end];
         if is_blank(byte) {
             return ended(value, at, end, most);
@@ -63,7 +61,6 @@ pub(crate) fn number_at(list: &[u8], at: usize, most: u64) -> Number
             return Number::NONE;
         };
         value = longer;
-        end += 1;
     }
     Number::NONE
 }

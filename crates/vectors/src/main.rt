@@ -1,6 +1,8 @@
 // Replays a list of cases, each with the right answer, against the C functions of crate host, the key columns of crate keys,
 // the handlers of crate handlers, the attempts of crate attempts and the log events of crate logged, and prints how many there
 // are and which of them differ. The first argument names the list.
+#![tactic(auto)]
+
 mod text; // text.rt: how words, numbers and lines are printed
 mod list; // list.rt: the head of the list, and the numbers after it
 mod parts; // parts.rt: what cases are made of, out of numbers: marks, sets, batches
@@ -19,45 +21,61 @@ mod run; // run.rt: cases of handlers, log events and attempts, many events on o
 mod tally; // tally.rt: the counts, and the lines on what differs
 mod replay; // replay.rt: the cases of a list, one after the other
 
-ghost use Rattle.io.specs.Counts.{IsPrefixLen};
+ghost use Rattle.std.specs.Io.{ReadsAtMost};
+
+use std::io::Read;
+use std::rt::{Env, Files};
+use std::{fs, io};
 
 // The room for a list. One that fills it is too long, since more of it may be left.
 const ROOM: usize = 1048576;
 
-fn main() {
-    let file = open();
-    if file < 0 {
-        return;
-    }
+// No path of the system is longer.
+const PATH_ROOM: usize = 4096;
+
+fn main(rt: HostRuntime) -> io::Result<()> {
+    let Some(file) = open(&rt)? else {
+        return Ok(());
+    };
     let mut room = [0u8; ROOM];
-    let count = read(file, &mut room);
-    libc::close(file);
+    let count = read(file, &mut room)?;
     if count == ROOM {
-        text::word(b"the list is too long\n");
-        return;
+        return text::word(&rt, b"the list is too long\n");
     }
-    replay::replay(&room[..count]);
+    replay::replay(&rt, &room[..count])
 }
 
-// The file that the first argument names; below 0 where it cannot be opened, and then it is said why.
-fn open() -> i32 {
-    let mut path = io::buffer();
-    let length = os::arg(1, &mut path);
-    if os::errno() != 0 {
-        os::fail(b"list");
-        return -1;
+// The file that the first argument names; none where it cannot be opened, and then it is said why.
+fn open<R: Env + Files + Eprint>(rt: &R) -> io::Result<Option<R::File>> {
+    let mut room = [0u8; PATH_ROOM];
+    let Ok(length) = rt.arg(1, &mut room) else {
+        rt.eprintln("list: the name is missing or too long")?;
+        return Ok(None);
+    };
+    let Ok(path) = str::from_utf8(&room[..length]) else {
+        rt.eprintln("list: the name is not UTF-8")?;
+        return Ok(None);
+    };
+    match fs::open(rt, path) {
+        Ok(file) => Ok(Some(file)),
+        Err(error) => {
+            eprintln!(rt; "{path}: {error}")?;
+            Ok(None)
+        }
     }
-    let file = os::open_read(&path[..length]);
-    if file < 0 {
-        os::fail(&path[..length]);
-    }
-    file
 }
 
-// How much of the room the list fills. The room is lent as an array, since to lend it as a slice would take a proof that
-// counts its bytes one by one.
-fn read(file: i32, room: &mut [u8; ROOM]) -> usize
-    ensures { IsPrefixLen result room.new }
+// How much of the room the list fills. The file is closed.
+fn read<R: Read + Drop>(mut file: R, room: &mut [u8; ROOM]) -> io::Result<usize>
+    ensures { ReadsAtMost result room.new }
 {
-    io::read_full(file, room)
+    let mut count: usize = 0;
+    while count < ROOM {
+        let got = file.read(&mut room[count..])?;
+        if got == 0 {
+            break;
+        }
+        count += got;
+    }
+    Ok(count)
 }

@@ -6,7 +6,7 @@ pub(crate) const UNTOUCHED: u8 = 0xA5;
 
 // The number that the function answers, the one that the list has, whether the contents are the list's too, and the place
 // after the case.
-#[derive(Drop)]
+#[derive(Clone, Copy)]
 pub struct Outcome {
     pub answers: u64,
     pub listed: u64,
@@ -50,7 +50,7 @@ impl Outcome {
 }
 
 // Whether something is as the list has it, and the place after it there.
-#[derive(Drop)]
+#[derive(Clone, Copy)]
 pub struct Same {
     pub agree: bool,
     pub next: usize,
@@ -77,26 +77,9 @@ fn goes_on(code: u64) -> bool {
 }
 
 pub(crate) fn are_all(bytes: &[u8], byte: u8) -> bool {
-    let mut i: usize = 0;
-    while i < bytes.len() {
-        if bytes[i] != byte {
-            return false;
-        }
-        i += 1;
-    }
-    true
+    bytes.iter().all(|b| *b == byte)
 }
 
 fn are_same(a: &[u8], b: &[u8]) -> bool {
-    if a.len() != b.len() {
-        return false;
-    }
-    let mut i: usize = 0;
-    while i < a.len() {
-        if a[i] != b[i] {
-            return false;
-        }
-        i += 1;
-    }
-    true
+    a == b
 }

@@ -10,7 +10,7 @@ use layout::numbers::put_word;
 use octets::sets::put_set;
 
 // How many replicas there are, which one is mine, and how many make a quorum.
-#[derive(Drop)]
+#[derive(Clone, Copy)]
 pub struct Config {
     pub n: u64,
     pub own: u64,
@@ -19,19 +19,19 @@ pub struct Config {
     pub next: usize,
 }
 
-#[derive(Drop)]
+#[derive(Clone, Copy)]
 pub struct ReadSet {
     pub cols: [u8; 7],
     pub next: usize,
 }
 
-#[derive(Drop)]
+#[derive(Clone, Copy)]
 pub struct ReadKind {
     pub kind: Kind,
     pub next: usize,
 }
 
-#[derive(Drop)]
+#[derive(Clone, Copy)]
 pub struct ReadBatch {
     pub batch: Batch,
     pub next: usize,
@@ -60,11 +60,9 @@ pub(crate) fn read_marks(list: &[u8], at: usize, marks: &mut [u8]) -> usize
     let count = number_at(list, at, 7);
     let marked = count.value;
     let mut next = count.next;
-    let mut i: u64 = 0;
-    while i < marked {
+    for _ in 0..marked {
         let replica = read_mark(list, next, marks);
         next = replica.next;
-        i += 1;
     }
     next
 }
@@ -126,12 +124,10 @@ pub(crate) fn set_at(list: &[u8], at: usize, n: u64) -> ReadSet
     let rows = n as usize;
     let mut cols = [0u8; 7];
     let mut next = at;
-    let mut row: usize = 0;
-    while row < rows {
+    for row in 0..rows {
         let number = number_at(list, next, 255);
         cols[row] = number.value as u8;
         next = number.next;
-        row += 1;
     }
     ReadSet {
         cols: cols,
@@ -145,8 +141,7 @@ pub(crate) fn batch_at(list: &[u8], at: usize) -> ReadBatch {
     let held = count.value;
     let mut batch = Batch::NO_OP;
     let mut next = count.next;
-    let mut i: u64 = 0;
-    while i < held {
+    for _ in 0..held {
         let client = number_at(list, next, u64::MAX);
         let id = number_at(list, client.next, u64::MAX);
         let read = kind_at(list, id.next);
@@ -157,7 +152,6 @@ pub(crate) fn batch_at(list: &[u8], at: usize) -> ReadBatch {
             kind: kind,
         });
         next = read.next;
-        i += 1;
     }
     ReadBatch {
         batch: batch,

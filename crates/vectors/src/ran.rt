@@ -24,13 +24,11 @@ fn same_slots(list: &[u8], at: usize, ran: usize, order: &[u8]) -> Same {
     let mut agree = ran as u64 == listed && is_untouched_from(order, ran);
     let mut least: u64 = 0;
     let mut next = count.next;
-    let mut i: u64 = 0;
-    while i < listed {
+    for _ in 0..listed {
         let slot = number_at(list, next, 223);
         agree = agree && least <= slot.value && is_among(order, ran, slot.value as u8);
         least = slot.value + 1;
         next = slot.next;
-        i += 1;
     }
     Same {
         agree: agree,
@@ -40,14 +38,7 @@ fn same_slots(list: &[u8], at: usize, ran: usize, order: &[u8]) -> Same {
 
 // Whether the slot is one of the entries of those that ran.
 fn is_among(order: &[u8], ran: usize, slot: u8) -> bool {
-    let mut i: usize = 0;
-    while i < ran && i < order.len() {
-        if order[i] == slot {
-            return true;
-        }
-        i += 1;
-    }
-    false
+    order.iter().take(ran).any(|entry| *entry == slot)
 }
 
 // The entries past those that ran are to be as they were.

@@ -9,7 +9,7 @@ use outcomes::output::{Output, Record, What};
 use table::place::Place;
 
 // What a record is, the peer that it goes to, and the ballot that it was asked with: 0 where there is none.
-#[derive(Drop)]
+#[derive(Clone, Copy)]
 pub struct Head {
     pub what: u64,
     pub to: u64,
@@ -24,13 +24,11 @@ pub(crate) fn same_output(list: &[u8], at: usize, n: u64, output: Output) -> Sam
     let listed = count.value as usize;
     let mut agree = output.count == listed;
     let mut next = count.next;
-    let mut i: usize = 0;
-    while i < listed {
+    for i in 0..listed {
         let record = output.records[i];
         let same = same_record(list, next, n, record);
         agree = agree && same.agree;
         next = same.next;
-        i += 1;
     }
     Same {
         agree: agree,

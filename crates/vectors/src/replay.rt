@@ -5,26 +5,27 @@ use super::outcome::Outcome;
 use super::tally::Tally;
 use super::{choice, fast, identify, run, text, union};
 use recovering::recovery::Rule;
+use std::io;
 
-// A proved loop has to end, and nothing says here that a case takes a byte. So the loop counts its turns down, from a number
-// that no list uses up.
-pub(crate) fn replay(list: &[u8]) {
-    text::word(first_line(list));
-    text::word(b"\n");
+// A proved loop has to end, and nothing says here that a case takes a byte. So the loop has as many turns as no list uses up.
+pub(crate) fn replay(rt: &impl Print, list: &[u8]) -> io::Result<()> {
+    text::word(rt, first_line(list))?;
+    text::word(rt, b"\n")?;
     let mut tally = Tally::NONE;
     let mut at = after_head(list);
-    let mut turns = u64::MAX;
-    while turns > 0 && at != list.len() {
+    for _ in 0..u64::MAX {
+        if at == list.len() {
+            break;
+        }
         let kind = number_at(list, at, u64::MAX);
         let outcome = case(list, kind.value, kind.next);
-        tally = tally.with(kind.value, outcome);
+        tally = tally.with(rt, kind.value, outcome)?;
         at = outcome.next;
         if at == LOST {
             break;
         }
-        turns -= 1;
     }
-    tally.print();
+    tally.print(rt)
 }
 
 // A case from the place after its kind on.

@@ -20,7 +20,7 @@ const DONE: u64 = 100;
 const EVENTS: u64 = 255;
 
 // How the run went so far, and the table that it has come to.
-#[derive(Drop)]
+#[derive(Clone, Copy)]
 pub struct Run {
     pub outcome: Outcome,
     pub table: Table,
@@ -32,10 +32,8 @@ pub(crate) fn case(list: &[u8], at: usize) -> Outcome {
     let count = number_at(list, config.next, EVENTS);
     let events = count.value;
     let mut run = begun(config, count.next);
-    let mut i: u64 = 0;
-    while i < events {
+    for _ in 0..events {
         run = with_event(list, n, run);
-        i += 1;
     }
     ended(list, n, run)
 }

@@ -10,7 +10,7 @@ use keys::columns::Keys;
 use slots::slot::Slot;
 use table::table::Table;
 
-#[derive(Drop)]
+#[derive(Clone, Copy)]
 pub struct ReadKeys {
     pub keys: Keys,
     pub next: usize,
@@ -23,12 +23,10 @@ pub(crate) fn same_table(list: &[u8], at: usize, n: u64, table: Table) -> Same
     let rows = n as usize;
     let mut agree = has_nothing_from(rows, table);
     let mut next = at;
-    let mut row: usize = 0;
-    while row < rows {
+    for row in 0..rows {
         let same = same_row(list, next, n, row, table);
         agree = agree && same.agree;
         next = same.next;
-        row += 1;
     }
     let keys = table.keys;
     let same = same_keys(list, next, n, keys);
@@ -39,15 +37,13 @@ pub(crate) fn same_table(list: &[u8], at: usize, n: u64, table: Table) -> Same
 }
 
 fn has_nothing_from(first: usize, table: Table) -> bool {
-    let mut row = first;
-    while row < 7 {
+    for row in first..7 {
         if table.lens[row] != 0 {
             return false;
         }
         if table.bars[row] != 0 {
             return false;
         }
-        row += 1;
     }
     true
 }
@@ -62,13 +58,11 @@ fn same_row(list: &[u8], at: usize, n: u64, row: usize, table: Table) -> Same
     let listed = len.value as usize;
     let mut agree = table.lens[row] == listed && table.bars[row] == bar.value as usize;
     let mut next = bar.next;
-    let mut col: usize = 0;
-    while col < listed {
+    for col in 0..listed {
         let slot = table.slots[32 * row + col];
         let same = same_slot(list, next, n, slot);
         agree = agree && same.agree;
         next = same.next;
-        col += 1;
     }
     Same {
         agree: agree,
@@ -101,14 +95,12 @@ fn same_marks(slot: Slot, listed: u64) -> bool {
         return listed == 0;
     }
     let mut bits = listed;
-    let mut r: usize = 0;
-    while r < 7 {
+    for r in 0..7 {
         let is_marked = bits % 2 == 1;
         if slot.marks[r] != is_marked {
             return false;
         }
         bits = bits / 2;
-        r += 1;
     }
     bits == 0
 }
@@ -132,15 +124,13 @@ fn keys_at(list: &[u8], at: usize, n: u64) -> ReadKeys
     let listed = count.value;
     let mut cols = [[0u8; 7]; 256];
     let mut next = count.next;
-    let mut i: u64 = 0;
-    while i < listed {
+    for _ in 0..listed {
         let key = number_at(list, next, 255);
         let set = set_at(list, key.next, n);
         let k = key.value as usize;
         let columns = set.cols;
         cols[k] = columns;
         next = set.next;
-        i += 1;
     }
     let keys = Keys::of(cols);
     ReadKeys {
@@ -153,8 +143,7 @@ fn keys_at(list: &[u8], at: usize, n: u64) -> ReadKeys
 fn have_same_columns(a: Keys, b: Keys) -> bool {
     let mine = a.rows();
     let others = b.rows();
-    let mut key: usize = 0;
-    while key < 256 {
+    for key in 0..256 {
         let my_cols = mine[key];
         let other_cols = others[key];
         let set = DepSet { cols: my_cols };
@@ -162,7 +151,6 @@ fn have_same_columns(a: Keys, b: Keys) -> bool {
         if !set.same(other) {
             return false;
         }
-        key += 1;
     }
     true
 }

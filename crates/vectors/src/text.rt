@@ -1,17 +1,17 @@
 // What the program prints: words, numbers, lines.
-use libc::STDOUT_FILENO;
+use std::io;
 
-pub(crate) fn word(bytes: &[u8]) {
-    io::write_all(STDOUT_FILENO, bytes);
+pub(crate) fn word(rt: &impl Print, bytes: &[u8]) -> io::Result<()> {
+    rt.write_all(bytes)
 }
 
-pub(crate) fn number(value: u64) {
-    io::print_decimal(STDOUT_FILENO, value);
+pub(crate) fn number(rt: &impl Print, value: u64) -> io::Result<()> {
+    rt.print(value)
 }
 
 // A number after words, where the line ends.
-pub(crate) fn line(bytes: &[u8], value: u64) {
-    word(bytes);
-    number(value);
-    word(b"\n");
+pub(crate) fn line(rt: &impl Print, bytes: &[u8], value: u64) -> io::Result<()> {
+    word(rt, bytes)?;
+    number(rt, value)?;
+    word(rt, b"\n")
 }
