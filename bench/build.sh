@@ -6,7 +6,7 @@ built=$bench/fetched
 # The archive of the entries by value, which only the bench links.
 build_values() {
     values=$root/target/staticlib/libbench_values.a
-    ! is_stale_crate "$values" bench_values || make_by_rt "$values" staticlib bench_values
+    ! is_stale_crate "$values" bench_values_c || make_by_rt "$values" bench_values_c lib libbench_values_c.a
 }
 
 # The program and all that it takes from Rust, as an archive, since the kit's linker and C library make the program of it.

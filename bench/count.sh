@@ -1,7 +1,7 @@
 # To be sourced after kit.sh and debian.sh: an emulator that counts x86-64 instructions, on every machine.
 # shellcheck shell=sh disable=SC2034,SC2154
 
-# The kit's emulator, else the machine's own, else Debian's. Sets counter. find_kit comes first.
+# The one that programs run under, else the machine's own, else Debian's. Sets counter. find_kit comes first.
 find_counter() {
     counter=${emulator:-$(command -v qemu-x86_64 || true)}
     [ -z "$counter" ] || return 0

@@ -66,7 +66,7 @@ fn run(words: &[&str]) -> Option<()> {
     Some(())
 }
 
-/// An ordinary Rust main does not start under the kit's emulator.
+/// An ordinary Rust main does not start under an emulator.
 #[unsafe(no_mangle)]
 pub extern "C" fn main(count: c_int, words: *const *const c_char) -> c_int {
     let words = unsafe { std::slice::from_raw_parts(words, count as usize) };

@@ -1,7 +1,7 @@
 //! A list of tests, run one after the other.
 //!
 //! The programs of the tests have their own main, that of C, and no harness of Rust's: where the machine is no x86-64 they
-//! run under the kit's emulator, which does not bear what Rust does around an ordinary main.
+//! run under an emulator, which does not bear what Rust does around an ordinary main.
 
 use std::panic::{catch_unwind, set_hook};
 
