@@ -17,6 +17,7 @@ use table::table::Table;
 // image: 33,618 bytes, a table. trace: an event in the bytes of a trace.
 // Answers 0 where the image has another length; 1 where a byte of it stands for nothing, or the table is outside the bounds;
 // 9 or 10 where no event is read; else the number of what the event is answered the last time, and 0 with no time.
+#[inline(never)]
 pub fn njb_step(image: &[u8], trace: &[u8], times: u64) -> u64
     ensures { result ≡ values_code image.now trace.now times }
 {

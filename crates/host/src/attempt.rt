@@ -12,6 +12,7 @@ use attempting::attempting::attempt_on;
 use passed::slices::size;
 
 // An entry of the order list is 32 * row + column; the first is the first that ran.
+#[inline(never)]
 pub fn nj_attempt(image: &mut [u8], row: u64, col: u64, order: &mut [u8], ran: &mut [u8]) -> u64
     ensures result { result ≡ (attempt_call row col image.old order.old ran.old).code }
     ensures table { image.new ≡ (attempt_call row col image.old order.old ran.old).image }

@@ -14,6 +14,7 @@ use passed::slices::config;
 // Longer slices are allowed: what is past these bytes is neither read nor written.
 // Answers 0 where a slice is short; 1 where a mark or avoided is above 1; a refusal's number; 104 wait;
 // 105 committed, 106 accepting. out is written for 105 and 106, and else stays as it was.
+#[inline(never)]
 pub fn nj_fast_decision(
     n: u64,
     own: u64,

@@ -13,6 +13,7 @@ use passed::slices::size;
 
 // status: 1 pre-accepting, 2 accepting, 3 committed. An entry of the order list is 32 * row + column; the first is the first
 // that ran.
+#[inline(never)]
 pub fn nj_logged(
     image: &mut [u8],
     row: u64,

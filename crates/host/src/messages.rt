@@ -18,6 +18,7 @@ use messaging::opening::open_on;
 
 // An empty table of this population, own number, simple and super quorum. Answers 100, and the image is written; 0 where it
 // has another length, 1 where the configuration is outside the bounds, and it stays as it was.
+#[inline(never)]
 pub fn nj_open(n: u64, own: u64, simple: u64, sup: u64, image: &mut [u8]) -> u64
     ensures result { result ≡ open_code n own simple sup image.old }
     ensures table { image.new ≡ open_image n own simple sup image.old }
@@ -25,6 +26,7 @@ pub fn nj_open(n: u64, own: u64, simple: u64, sup: u64, image: &mut [u8]) -> u64
     open_on(n, own, simple, sup, image)
 }
 
+#[inline(never)]
 pub fn nj_pre_accept(
     image: &mut [u8],
     peer: u64,
@@ -50,6 +52,7 @@ pub fn nj_pre_accept(
     )
 }
 
+#[inline(never)]
 pub fn nj_accept(
     image: &mut [u8],
     peer: u64,
@@ -75,6 +78,7 @@ pub fn nj_accept(
     )
 }
 
+#[inline(never)]
 pub fn nj_commit_notice(
     image: &mut [u8],
     peer: u64,
@@ -100,6 +104,7 @@ pub fn nj_commit_notice(
     )
 }
 
+#[inline(never)]
 pub fn nj_accept_reply(
     image: &mut [u8],
     peer: u64,
@@ -115,6 +120,7 @@ pub fn nj_accept_reply(
     ask(Handler::AcceptReply, peer, row, col, ballot, image, out)
 }
 
+#[inline(never)]
 pub fn nj_exp_prepare(
     image: &mut [u8],
     peer: u64,
@@ -131,6 +137,7 @@ pub fn nj_exp_prepare(
 }
 
 // This copy leads the slot from now on. It puts out nothing.
+#[inline(never)]
 pub fn nj_lead(image: &mut [u8], row: u64, col: u64, out: &mut [u8]) -> u64
     ensures result { result ≡ (plain_call (λ t. lead_slot t (place_of row col)) image.old out.old).code }
     ensures table { image.new ≡ (plain_call (λ t. lead_slot t (place_of row col)) image.old out.old).image }

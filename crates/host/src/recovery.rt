@@ -19,6 +19,7 @@ use recovering::recovery::Rule;
 // Longer slices are allowed: what is past these bytes is neither read nor written.
 // Answers 0 where a slice is short; 1 where a mark, status or kind is none of these; a refusal's number; 104 wait;
 // 105 committed, 106 accepting, 107 pre-accepting. out is written for 105, 106 and 107, and else stays as it was.
+#[inline(never)]
 pub fn nj_rust_choice(
     n: u64,
     own: u64,
@@ -40,6 +41,7 @@ pub fn nj_rust_choice(
 }
 
 // The same by the paper's counts.
+#[inline(never)]
 pub fn nj_paper_choice(
     n: u64,
     own: u64,

@@ -10,6 +10,7 @@ use octets::sets::{put_set, set_at};
 // out: 7 bytes, the union.
 // Longer slices are allowed: what is past these bytes is neither read nor written.
 // Answers 100, and out is written; 0 where a slice is short, and out stays as it was.
+#[inline(never)]
 pub fn nj_union(a: &[u8], b: &[u8], out: &mut [u8]) -> u64
     ensures result { result ≡ union_code a.now b.now out.old }
     ensures bytes { out.new ≡ union_bytes a.now b.now out.old }
