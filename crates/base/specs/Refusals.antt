@@ -1,5 +1,7 @@
 -- The numbers of the refusals, the limit of a sequence, and the first refusal of a list of tests.
-use Rattle.std.specs.Prelude.{List, [], ◌∷◌, Bool, cond, ℕ}
+use Rattle.std.specs.Prelude.{List, [], ◌∷◌, Bool, cond, ℕ, Result, Ok, Err}
+use Rattle.base.specs.declared.refusals.Refusal.{Refusal}
+use Rattle.base.specs.declared.refusals.Refusal.TheVariants.{OutsideBounds, NoReplica, NoColumn, BadDependency, BadBatch, OverLimit, NoSlot, ShortOrder, Cut, Unreadable, TooLong}
 
 -- a configuration or table outside the bounds, or a bar past its row's slots
 abbrev pub outside_bounds : ℕ
@@ -53,3 +55,21 @@ sequence_limit = 4294967295
 unfoldable pub first_refusal : List (Bool × ℕ) → ℕ
 first_refusal [] = 0
 first_refusal ((ok, number) ∷ rest) = cond ok (first_refusal rest) number
+
+abbrev pub refusal_number : Refusal → ℕ
+refusal_number OutsideBounds = outside_bounds
+refusal_number NoReplica = no_replica
+refusal_number NoColumn = no_column
+refusal_number BadDependency = bad_dependency
+refusal_number BadBatch = bad_batch
+refusal_number OverLimit = over_limit
+refusal_number NoSlot = no_slot
+refusal_number ShortOrder = short_order
+refusal_number Cut = cut
+refusal_number Unreadable = unreadable
+refusal_number TooLong = too_long
+
+-- the number that a test answers, 0 where nothing is refused
+abbrev pub refused_number : {A : Type 0} → Result A Refusal → ℕ
+refused_number (Ok _) = 0
+refused_number (Err refusal) = refusal_number refusal
