@@ -8,6 +8,8 @@ use native.Mathlib.Nat.{mul-zero, eq-or-lt_of_le, le_of_suc-le-suc}
 use native.Mathlib.Omega.{arith}
 use lib.ListN.{length, get_or, drop, set, length-append}
 use lib.Seq.{drop-drop, drop_at, ext_get_or, get_or-drop}
+use denote.Param.Members.{Mut, Called}
+use Rattle.std.specs.Array.{IsFromFnResultFrom, IsFromFnResult}
 use Rattle.base.proofs.Loops.{mix, mix_more, mix_all}
 use Rattle.layout.specs.Numbers.{byte_of, lay}
 use Rattle.layout.specs.Each.{each_at, each_bytes}
@@ -42,11 +44,33 @@ module _ {A : Type 0} (one : List ℕ → A) (w : ℕ) where
         let k = each_length n (drop at l) in
         inv ∙ mix_all (each_at one w n (drop at l)) z (omega arith) i (omega arith)
 
+-- an array made by a function of the index, which reads the element at that index from at on
+module _ {A F : Type 0} (g : Mut F (ℕ × Unit {0}) A) (one : List ℕ → A) (w at : ℕ) (l : List ℕ) (f : F) (h : (i : ℕ) (y : A) (q : F) → Called g f (i, tt) y q → (y ≡ one (drop (at + w * i) l)) × (q ≡ f)) where
+  made_from : (k i j : ℕ) (ys : List A) (d : A) → IsFromFnResultFrom g f ys i k → j < k → get_or ys (i + j) d ≡ one (drop (at + w * (i + j)) l)
+  made_from zero i j ys d m p = absurd (omega arith)
+  made_from (suc k) i zero ys d (q, y, e, c, m) p =
+      let z : i + 0 ≡ i = omega arith in
+      rw z (e.1 d ∙ (h i y q c).0)
+  made_from (suc k) i (suc j) ys d (q, y, e, c, m) p =
+      let z : i + 1 + j ≡ i + suc j = omega arith in
+      let r = made_from k (i + 1) j ys d (rw (h i y q c).1 at m) (omega arith) in
+      rw z at r
+
+  pub made_is : (n : ℕ) (ys : List A) (d : A) → IsFromFnResult g f ys n → ys ≡ each_at one w n (drop at l)
+  made_is n ys d m =
+      ext_get_or d ys (each_at one w n (drop at l)) (m.long ∙ sym (each_length one w n (drop at l)))
+      (λ i p. let q : i < n = rw m.long at p in let z : 0 + i ≡ i = omega arith in (rw z at (made_from n 0 i ys d m.each q)) ∙ sym (each_is one w n i (drop at l) d q ∙ rw drop-drop refl))
+
 -- the byte that a turn reads
 pub byte_is : (l : List ℕ) (at i : ℕ) → get_or l (at + i) 0 ≡ byte_of (drop (at + 1 * i) l)
 byte_is l at i =
     let e : at + 1 * i + 0 ≡ at + i = omega arith in
     rw (get_or-drop, e)
+
+-- an array of what is made of one byte after the other
+module _ {A F : Type 0} (g : Mut F (ℕ × Unit {0}) A) (of_byte : ℕ → A) (at : ℕ) (l : List ℕ) (f : F) (h : (i : ℕ) (y : A) (q : F) → Called g f (i, tt) y q → (y ≡ of_byte (get_or l (at + i) 0)) × (q ≡ f)) where
+  pub made_of_bytes : (n : ℕ) (ys : List A) (d : A) → IsFromFnResult g f ys n → ys ≡ each_at (λ (k : List ℕ). of_byte (byte_of k)) 1 n (drop at l)
+  made_of_bytes = made_is g (λ (k : List ℕ). of_byte (byte_of k)) 1 at l f (λ i y q c. ((h i y q c).0 ∙ ap of_byte (byte_is l at i), (h i y q c).1))
 
 -- ---- writing
 
