@@ -1,9 +1,9 @@
 // Refusal 1: whether a table is within the bounds; and 2 and 3 of a place in it.
 ghost use Rattle.std.specs.Prelude.{◌≡◌};
-ghost use Rattle.base.specs.Refusals.{first_refusal};
+ghost use Rattle.base.specs.Refusals.{first_refusal, refused_number};
 ghost use Rattle.bounds.specs.Bounds.{row_fits, rows_fit, slots_fit, table_fits, place_tests_in, place_refusal};
 
-use base::refusals;
+use base::refusals::Refusal;
 use table::place::Place;
 use table::table::Table;
 
@@ -11,60 +11,46 @@ use table::table::Table;
 pub fn fits(table: Table) -> bool
     ensures { result ≡ table_fits table }
 {
-    let config = table.config;
-    if !config.fits() {
+    if !table.config.fits() {
         return false;
     }
-    let lens = table.lens;
-    let bars = table.bars;
-    if !rows_fit(config.n, lens, bars) {
+    if !rows_fit(table.config.n, table.lens, table.bars) {
         return false;
     }
-    if !slots_fit(table) {
-        return false;
-    }
-    let keys = table.keys;
-    keys.fits(config.n)
+    slots_fit(table) && table.keys.fits(table.config.n)
 }
 
-// The first refusal of a place: 1 of the table, 2 of the row, 3 of the column; 0 for none.
-pub fn refusal(table: Table, at: Place) -> u64
-    ensures { result ≡ place_refusal table at }
+// The first refusal of a place: of the table, of the row, of the column.
+pub fn refusal(table: Table, at: Place) -> Result<(), Refusal>
+    ensures { refused_number result ≡ place_refusal table at }
 {
-    let config = table.config;
-    of_place(fits(table), config.n, at)
+    of_place(fits(table), table.config.n, at)
 }
 
 // The same, of what is known of a table: whether it is within the bounds, and how many rows it has.
-pub fn of_place(within: bool, n: usize, at: Place) -> u64
-    ensures { result ≡ first_refusal (place_tests_in within n at) }
+pub fn of_place(within: bool, n: usize, at: Place) -> Result<(), Refusal>
+    ensures { refused_number result ≡ first_refusal (place_tests_in within n at) }
 {
     if !within {
-        return refusals::OUTSIDE_BOUNDS;
+        return Err(Refusal::OutsideBounds);
     }
     if n <= at.row {
-        return refusals::NO_REPLICA;
+        return Err(Refusal::NoReplica);
     }
     if 32 <= at.col {
-        return refusals::NO_COLUMN;
+        return Err(Refusal::NoColumn);
     }
-    0
+    Ok(())
 }
 
 // Every slot that the table holds.
 fn slots_fit(table: Table) -> bool
     ensures { result ≡ slots_fit table }
 {
-    let config = table.config;
-    let mut i: usize = 0;
-    while i < 224 {
-        if i % 32 < table.lens[i / 32] {
-            let slot = table.slots[i];
-            if !slot.fits(config.n) {
-                return false;
-            }
+    for i in 0..224 {
+        if i % 32 < table.lens[i / 32] && !table.slots[i].fits(table.config.n) {
+            return false;
         }
-        i += 1;
     }
     true
 }
@@ -73,12 +59,10 @@ fn slots_fit(table: Table) -> bool
 pub fn rows_fit(n: usize, lens: [usize; 7], bars: [usize; 7]) -> bool
     ensures { result ≡ rows_fit n lens bars }
 {
-    let mut row: usize = 0;
-    while row < 7 {
+    for row in 0..7 {
         if !row_fits(n, row, lens[row], bars[row]) {
             return false;
         }
-        row += 1;
     }
     true
 }
@@ -88,8 +72,5 @@ fn row_fits(n: usize, row: usize, len: usize, bar: usize) -> bool
     ensures { result ≡ row_fits n row len bar }
 {
     let room = if row < n { 32 } else { 0 };
-    if room < len {
-        return false;
-    }
-    bar <= len
+    len <= room && bar <= len
 }

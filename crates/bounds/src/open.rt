@@ -19,22 +19,20 @@ pub fn open(n: usize, own: usize, simple: usize, sup: usize) -> Opened
     ensures { result ≡ open_of n own simple sup }
 {
     let config = Config {
-        n: n,
-        own: own,
-        simple: simple,
-        sup: sup,
+        n,
+        own,
+        simple,
+        sup,
     };
-    let table = Table::empty(config);
-    if !config.fits() {
-        return Opened {
-            answer: Answer::Refused {
-                number: refusals::OUTSIDE_BOUNDS,
-            },
-            table: table,
-        };
-    }
+    let answer = if config.fits() {
+        Answer::Done
+    } else {
+        Answer::Refused {
+            number: refusals::OUTSIDE_BOUNDS,
+        }
+    };
     Opened {
-        answer: Answer::Done,
-        table: table,
+        answer,
+        table: Table::empty(config),
     }
 }

@@ -7,7 +7,7 @@ ghost use Rattle.changes.specs.View.{slot_seen, view_of};
 ghost use Rattle.image.specs.Tables.{image_width, table_at};
 
 use bounds::bounds::rows_fit;
-use bounds::highest::{greater, is_held};
+use bounds::highest::is_held;
 use changes::view::View;
 use deps::batches::Batch;
 use deps::sets::DepSet;
@@ -114,7 +114,7 @@ fn highest_at(image: &[u8], set: DepSet) -> u32
         let number = set.cols[row] as usize;
         if is_held(number, lens[row]) {
             let slot = slot_at(image, 1810 + 142 * (32 * row + (number - 1)));
-            highest = greater(highest, slot.seq);
+            highest = highest.max(slot.seq);
         }
         row += 1;
     }

@@ -9,23 +9,14 @@ returns-then-not-fits c = simp (failed c.fits.ensures c.if-not-fits.true)
 
 pub returns-then-not-rows_fit : goal.returns-then-not-rows_fit
 unfolding table_fits
-returns-then-not-rows_fit c =
-    let d = c.before in
-    simp (passed d.fits.ensures d.if-not-fits.false, failed c.rows_fit.ensures c.if-not-rows_fit.true)
+returns-then-not-rows_fit c = simp (passed c.fits.ensures c.if-not-fits.false, failed c.rows_fit.ensures c.if-not-rows_fit.true)
 
-pub returns-then-not-slots_fit : goal.returns-then-not-slots_fit
+pub returns-then-slots_fit : goal.returns-then-slots_fit
 unfolding table_fits
-returns-then-not-slots_fit c =
-    let e = c.before in
-    let d = e.before in
-    simp (passed d.fits.ensures d.if-not-fits.false, passed e.rows_fit.ensures e.if-not-rows_fit.false, failed c.slots_fit.ensures c.if-not-slots_fit.true)
+returns-then-slots_fit c =
+    simp (passed c.fits.ensures c.if-not-fits.false, passed c.rows_fit.ensures c.if-not-rows_fit.false, passed c.slots_fit.ensures c.if-slots_fit.true, c.fits-then-slots_fit.ensures)
 
-pub returns : goal.returns
+pub returns-else-slots_fit : goal.returns-else-slots_fit
 unfolding table_fits
-returns c =
-    let f = c.before in
-    let e = f.before in
-    let d = e.before in
-    let a = passed d.fits.ensures d.if-not-fits.false in
-    let b = passed e.rows_fit.ensures e.if-not-rows_fit.false in
-    simp (a, b, passed f.slots_fit.ensures f.if-not-slots_fit.false, c.fits-2.ensures)
+returns-else-slots_fit c =
+    simp (passed c.fits.ensures c.if-not-fits.false, passed c.rows_fit.ensures c.if-not-rows_fit.false, failed c.slots_fit.ensures c.if-slots_fit.false, c.if-slots_fit.false)

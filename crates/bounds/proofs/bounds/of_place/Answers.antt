@@ -9,20 +9,12 @@ returns-then-not-within c = simp (c.if-not-within.true)
 
 pub returns-then-n-at : goal.returns-then-n-at
 unfolding first_refusal
-returns-then-n-at c =
-    let i = c.before in
-    simp (i.if-not-within.false, le-ltb _ _ c.if-n-at.true)
+returns-then-n-at c = simp (c.if-not-within.false, le-ltb _ _ c.if-n-at.true)
 
 pub returns-then-at-ge32 : goal.returns-then-at-ge32
 unfolding first_refusal
-returns-then-at-ge32 c =
-    let b = c.before in
-    let i = b.before in
-    simp (i.if-not-within.false, lt-ltb _ _ b.if-n-at.false, le-ltb _ _ c.if-at-ge32.true)
+returns-then-at-ge32 c = simp (c.if-not-within.false, lt-ltb _ _ c.if-n-at.false, le-ltb _ _ c.if-at-ge32.true)
 
 pub returns : goal.returns
 unfolding first_refusal
-returns c =
-    let b = c.before in
-    let i = b.before in
-    simp (i.if-not-within.false, lt-ltb _ _ b.if-n-at.false, lt-ltb _ _ c.if-at-ge32.false)
+returns c = simp (c.if-not-within.false, lt-ltb _ _ c.if-n-at.false, lt-ltb _ _ c.if-at-ge32.false)

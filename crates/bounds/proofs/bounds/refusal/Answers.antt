@@ -7,7 +7,4 @@ use Rattle.bounds.proofs.bounds.refusal.Goals as goal
 
 pub returns : goal.returns
 unfolding place_refusal
-returns c =
-    let f = c.before in
-    let a = f.args in
-    c.of_place.ensures ∙ ap (λ (x : Bool). first_refusal (place_tests_in x a.table.config.n a.at)) f.fits.ensures
+returns c = c.of_place.ensures ∙ ap (λ (x : Bool). first_refusal (place_tests_in x c.args.table.config.n c.args.at)) c.fits.ensures

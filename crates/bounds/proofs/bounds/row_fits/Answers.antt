@@ -5,22 +5,22 @@ use borrow.Author.Tests.{lt-ltb, le-ltb, le-leb, lt-leb}
 use Rattle.bounds.proofs.bounds.row_fits.Goals as goal
 use Rattle.bounds.proofs.bounds.row_fits.Goals.{else-row-n, then-row-n}
 
-pub returns-then-room-len : goal.returns-then-room-len
+pub returns-then-len-room : goal.returns-then-len-room
 unfolding row_fits
-returns-then-room-len c =
+returns-then-len-room c =
     let e : c.if-row-n.room ≡ room c.args.n c.args.row =
     elim c.if-row-n.branch [
       | then-row-n t ↦ t.room-is ∙ sym (rw (lt-ltb _ _ t.if-row-n.true))
       | else-row-n t ↦ t.room-is ∙ sym (rw (le-ltb _ _ t.if-row-n.false))
     ] in
-    simp (lt-leb _ _ (rw e at c.if-room-len.true))
+    simp (le-leb _ _ (rw e at c.if-len-room.true))
 
-pub returns : goal.returns
+pub returns-else-len-room : goal.returns-else-len-room
 unfolding row_fits
-returns c =
+returns-else-len-room c =
     let e : c.if-row-n.room ≡ room c.args.n c.args.row =
     elim c.if-row-n.branch [
       | then-row-n t ↦ t.room-is ∙ sym (rw (lt-ltb _ _ t.if-row-n.true))
       | else-row-n t ↦ t.room-is ∙ sym (rw (le-ltb _ _ t.if-row-n.false))
     ] in
-    simp (le-leb _ _ (rw e at c.if-room-len.false))
+    lt-leb _ _ c.if-len-room.false ∙ sym (rw (lt-leb _ _ (rw e at c.if-len-room.false)))

@@ -3,11 +3,8 @@ use Rattle.base.specs.Below.{all_below}
 use Rattle.bounds.specs.Bounds.{held_fits}
 use mathlib.Core.Path.{◌≡◌}
 use mathlib.Core.Bool.{true}
-use Prim.Native.Nat.{◌≤◌, ◌-◌}
+use Prim.Native.Nat.{◌≤◌}
 use Rattle.bounds.proofs.bounds.slots_fit.Given as goal
 
 abbrev pub invariant-loop-i : goal.invariant-loop-i
 invariant-loop-i l = (l.i ≤ 224) × (all_below l.i (held_fits l.table) ≡ true)
-
-abbrev pub decreases-loop-i : goal.decreases-loop-i
-decreases-loop-i l = 224 - l.i

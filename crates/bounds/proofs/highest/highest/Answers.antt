@@ -12,8 +12,8 @@ use Rattle.bounds.proofs.highest.highest.Goals.{else-is_held, then-is_held}
 pub loop-row-init : goal.loop-row-init
 loop-row-init c = (search rules, greatest_none _)
 
-pub overflow_sub-slot : goal.overflow_sub-slot
-overflow_sub-slot c =
+pub overflow_sub-number : goal.overflow_sub-number
+overflow_sub-number c =
     let h = held_each _ _ (sym c.is_held.ensures ∙ c.if-is_held.true) in
     omega (arith, h.0, h.1)
 
@@ -24,12 +24,16 @@ bounds-table-row-then-is_held c =
 
 pub loop-row-preserved : goal.loop-row-preserved
 loop-row-preserved c =
-    let h = c.before in
-    let o = h.before in
-    let a = o.args in
-    let row = o.loop-row.row in
-    let f = sequence_in a.table a.set in
-    (elim c.if-is_held.branch [ then-is_held t ↦ (search rules, greatest_more f row _ _ o.loop-row.invariant.1 (t.highest-is ∙ t.greater-highest.ensures ∙ ap (max o.loop-row.highest) (sym (rw (sym h.is_held.ensures ∙ t.if-is_held.true))))) | else-is_held t ↦ (search rules, greatest_more f row _ _ o.loop-row.invariant.1 (t.highest-is ∙ sym (rw (sym h.is_held.ensures ∙ t.if-is_held.false) (omega arith)))) ])
+    let row = c.loop-row.row in
+    let f = sequence_in c.args.table c.args.set in
+    let named = c.from-number.ensures in
+    let held = rw named at c.is_held.ensures in
+    let more : c.if-is_held.highest ≡ max c.loop-row.highest (f row) =
+    elim c.if-is_held.branch [
+      | then-is_held t ↦ t.highest-is ∙ rw named at t.max-highest.ensures ∙ ap (max c.loop-row.highest) (sym (rw (sym held ∙ t.if-is_held.true)))
+      | else-is_held t ↦ t.highest-is ∙ sym (rw (sym held ∙ t.if-is_held.false) (omega arith))
+    ] in
+    (search rules, greatest_more f row _ _ c.loop-row.invariant.1 more)
 
 pub returns : goal.returns
 unfolding highest_of

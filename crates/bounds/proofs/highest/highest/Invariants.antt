@@ -1,5 +1,5 @@
 -- `bounds::highest::highest` meets its contract: the greatest of the rows so far.
-use Prim.Native.Nat.{◌≤◌, ◌-◌}
+use Prim.Native.Nat.{◌≤◌}
 use Rattle.base.specs.Below.{greatest_below}
 use Rattle.bounds.specs.Highest.{sequence_in}
 use mathlib.Core.Path.{◌≡◌}
@@ -7,6 +7,3 @@ use Rattle.bounds.proofs.highest.highest.Given as goal
 
 abbrev pub invariant-loop-row : goal.invariant-loop-row
 invariant-loop-row l = (l.row ≤ 7) × (l.highest ≡ greatest_below l.row (sequence_in l.table l.set))
-
-abbrev pub decreases-loop-row : goal.decreases-loop-row
-decreases-loop-row l = 7 - l.row

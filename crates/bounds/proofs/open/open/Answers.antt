@@ -2,15 +2,11 @@
 use Rattle.base.proofs.Tests.{passed, failed}
 use Rattle.bounds.specs.Open.{open_of}
 use Rattle.bounds.proofs.open.open.Goals as goal
-
-pub returns-then-not-fits : goal.returns-then-not-fits
-unfolding open_of
-returns-then-not-fits c =
-    let e = c.empty-table.ensures in
-    rw (failed c.fits.ensures c.if-not-fits.true, e)
+use Rattle.bounds.proofs.open.open.Goals.{then-fits, else-fits}
 
 pub returns : goal.returns
 unfolding open_of
-returns c =
-    let e = c.empty-table.ensures in
-    rw (passed c.fits.ensures c.if-not-fits.false, e)
+returns c = elim c.if-fits.branch [
+  | then-fits t ↦ rw (passed c.fits.ensures t.if-fits.true, t.answer-is, c.empty.ensures)
+  | else-fits t ↦ rw (failed c.fits.ensures t.if-fits.false, t.answer-is, c.empty.ensures)
+]

@@ -30,7 +30,7 @@ loop-row-preserved c =
     let l = a.image.now in
     let row = c.loop-row.row in
     let f = sequence_in (table_at l) a.set in
-    (elim c.if-is_held.branch [ then-is_held t ↦ (search rules, greatest_more f row _ _ c.loop-row.invariant.1 (t.highest-is ∙ t.greater-highest.ensures ∙ ap (max c.loop-row.highest) (sym (held_sequence l c.rows_at-lens.ensures a.set row t.slot_at-slot.ensures c.loop-row-test.true (sym c.is_held.ensures ∙ t.if-is_held.true))))) | else-is_held t ↦ (search rules, greatest_more f row _ _ c.loop-row.invariant.1 (t.highest-is ∙ sym (rw (none_sequence l c.rows_at-lens.ensures a.set row (sym c.is_held.ensures ∙ t.if-is_held.false)) (omega arith)))) ])
+    (elim c.if-is_held.branch [ then-is_held t ↦ (search rules, greatest_more f row _ _ c.loop-row.invariant.1 (t.highest-is ∙ t.max-highest.ensures ∙ ap (max c.loop-row.highest) (sym (held_sequence l c.rows_at-lens.ensures a.set row t.slot_at-slot.ensures c.loop-row-test.true (sym c.is_held.ensures ∙ t.if-is_held.true))))) | else-is_held t ↦ (search rules, greatest_more f row _ _ c.loop-row.invariant.1 (t.highest-is ∙ sym (rw (none_sequence l c.rows_at-lens.ensures a.set row (sym c.is_held.ensures ∙ t.if-is_held.false)) (omega arith)))) ])
 
 pub returns : goal.returns
 unfolding highest_of
