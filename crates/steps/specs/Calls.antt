@@ -1,11 +1,13 @@
 -- The events of a trace, as calls of the entries.
-use Rattle.std.specs.Prelude.{cond, eqb, ℕ}
+use Rattle.std.specs.Prelude.{cond, eqb, leb, ◌&&◌, ℕ, Result, Ok, Err}
 use Rattle.table.specs.declared.place.Place.{Place}
 use Rattle.outcomes.specs.declared.message.Message.{Message}
 use Rattle.outcomes.specs.declared.message.Proposal.{Proposal}
 use Rattle.proposing.specs.declared.proposals.Phase.{Phase}
 use Rattle.proposing.specs.declared.proposals.Phase.TheVariants as Phases
 use Rattle.base.specs.declared.log_status.LogStatus.{LogStatus}
+use Rattle.base.specs.declared.refusals.Refusal.{Refusal}
+use Rattle.base.specs.declared.refusals.Refusal.TheVariants.{Unreadable}
 use Rattle.steps.specs.declared.event.Tag.{Tag}
 use Rattle.steps.specs.declared.event.Tag.TheVariants.{PreAccept, Accept, CommitNotice, AcceptReply, ExpPrepare, Logged, Attempt, Lead}
 use Rattle.steps.specs.declared.event.Event.{Event}
@@ -50,3 +52,7 @@ tag_of k =
     (cond (eqb k 2) Accept
     (cond (eqb k 3) CommitNotice
     (cond (eqb k 4) AcceptReply (cond (eqb k 5) ExpPrepare (cond (eqb k 6) Logged (cond (eqb k 7) Attempt Lead))))))
+
+-- a number that stands for none is unreadable
+abbrev pub tag_in : ℕ → Result Tag Refusal
+tag_in k = cond (leb 1 k && leb k 8) (Ok (tag_of k)) (Err Unreadable)

@@ -3,9 +3,10 @@ ghost use Rattle.std.specs.Prelude.{◌≡◌};
 ghost use Rattle.steps.specs.Calls.{tag_of};
 
 use base::log_status::LogStatus;
+use base::refusals::Refusal;
 use outcomes::message::Proposal;
 
-#[derive(Clone, Copy)]
+#[derive(Clone, Copy, PartialEq, Eq)]
 pub enum Tag {
     PreAccept,
     Accept,
@@ -25,20 +26,37 @@ pub struct Event {
     pub status: LogStatus,
 }
 
+impl TryFrom<u64> for Tag {
+    ghost use Rattle.std.specs.Prelude.{◌≡◌};
+    ghost use Rattle.steps.specs.Calls.{tag_in};
+
+    type Error = Refusal;
+
+    ghost try_from_gives = { λ number outcome. outcome ≡ tag_in number };
+
+    // The one that a number from 1 to 8 stands for.
+    #[tactic(auto, unfolding(crate::specs::Calls::tag_of))]
+    fn try_from(number: u64) -> Result<Tag, Refusal> {
+        match number {
+            1 => Ok(Tag::PreAccept),
+            2 => Ok(Tag::Accept),
+            3 => Ok(Tag::CommitNotice),
+            4 => Ok(Tag::AcceptReply),
+            5 => Ok(Tag::ExpPrepare),
+            6 => Ok(Tag::Logged),
+            7 => Ok(Tag::Attempt),
+            8 => Ok(Tag::Lead),
+            _ => Err(Refusal::Unreadable),
+        }
+    }
+}
+
 impl Tag {
-    // The one that a number from 1 to 8 stands for; of any other number it is Lead.
+    // The one that a number stands for; of a number that stands for none it is Lead. Public, and it cannot fail.
+    #[tactic(auto, unfolding(crate::specs::Calls::tag_of))]
     pub fn of(number: u64) -> Tag
         ensures { result ≡ tag_of number }
     {
-        match number {
-            1 => Tag::PreAccept,
-            2 => Tag::Accept,
-            3 => Tag::CommitNotice,
-            4 => Tag::AcceptReply,
-            5 => Tag::ExpPrepare,
-            6 => Tag::Logged,
-            7 => Tag::Attempt,
-            _ => Tag::Lead,
-        }
+        Tag::try_from(number).unwrap_or(Tag::Lead)
     }
 }

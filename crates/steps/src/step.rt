@@ -21,32 +21,24 @@ pub fn step(table: Table, event: Event, order: &mut [u8]) -> LogOutcome
     ensures result { result ≡ step_of table (call_of event) (length order.old) }
     ensures list { order.new ≡ step_order table (call_of event) order.old }
 {
-    let tag = event.tag;
     let proposal = event.proposal;
     let message = proposal.message;
-    let at = message.at;
-    match tag {
+    match event.tag {
         Tag::PreAccept => ran_none(pre_accept(table, proposal)),
         Tag::Accept => ran_none(accept(table, proposal)),
         Tag::CommitNotice => ran_none(commit_notice(table, proposal)),
         Tag::AcceptReply => ran_none(accept_reply(table, message)),
         Tag::ExpPrepare => ran_none(exp_prepare(table, message)),
-        Tag::Logged => {
-            let status = event.status;
-            logged(table, at, status, order)
-        }
-        Tag::Attempt => attempted(table, at, order),
-        Tag::Lead => ran_none(lead(table, at)),
+        Tag::Logged => logged(table, message.at, event.status, order),
+        Tag::Attempt => attempted(table, message.at, order),
+        Tag::Lead => ran_none(lead(table, message.at)),
     }
 }
 
 fn ran_none(outcome: Outcome) -> LogOutcome
     ensures { result ≡ handled outcome }
 {
-    LogOutcome {
-        outcome: outcome,
-        ran: 0,
-    }
+    LogOutcome { outcome, ran: 0 }
 }
 
 fn attempted(table: Table, at: Place, order: &mut [u8]) -> LogOutcome
@@ -54,15 +46,12 @@ fn attempted(table: Table, at: Place, order: &mut [u8]) -> LogOutcome
     ensures list { order.new ≡ attempt_order table at order.old }
 {
     let tried = attempt(table, at, order);
-    let answer = tried.answer;
-    let after = tried.table;
-    let outcome = Outcome {
-        answer: answer,
-        table: after,
-        output: Output::NONE,
-    };
     LogOutcome {
-        outcome: outcome,
+        outcome: Outcome {
+            answer: tried.answer,
+            table: tried.table,
+            output: Output::NONE,
+        },
         ran: tried.ran,
     }
 }
