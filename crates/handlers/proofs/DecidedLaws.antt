@@ -4,6 +4,8 @@ use mathlib.Core.List.{[], ◌∷◌}
 use mathlib.Core.Bool.{Bool, true, false}
 use lib.Dec.{leb}
 use Prim.Native.Nat.{ℕ, ◌<◌, ◌≤◌}
+use Rattle.base.specs.Refusals.{refusal_number}
+use Rattle.base.specs.declared.refusals.Refusal.{Refusal}
 use Rattle.base.specs.Marks.{count_of}
 use Rattle.base.specs.declared.config.Config.{Config}
 use Rattle.deps.specs.declared.batches.Batch.{Batch}
@@ -17,6 +19,7 @@ use Rattle.outcomes.specs.Outcome.{done, outcome_of}
 use Rattle.outcomes.specs.Refusal.{message_refusal, lead_refusal}
 use Rattle.outcomes.specs.declared.message.Message.{Message}
 use Rattle.outcomes.proofs.OutcomeLaws.{when_not}
+use Rattle.outcomes.proofs.RefusalLaws.{number_some}
 use Rattle.changes.specs.View.{view_of}
 use Rattle.changes.specs.Change.{MakesForAny, Inside, Seven, changed, refusing, ignoring, doing}
 use Rattle.changes.specs.declared.view.View.{View}
@@ -45,14 +48,14 @@ mark_same t at s h = go (leb t.config.simple (count_of s.marks)) refl
     go false q = rw q (held_put t at s [] h)
 
 module _ (v : View) (m : Message) where
-  pub reply_refused : (k : ℕ) → 0 < k → k ≡ message_in v m → MakesForAny (λ t. accept_reply t m) v m.at (refusing k)
+  pub reply_refused : (refusal : Refusal) → refusal_number refusal ≡ message_in v m → MakesForAny (λ t. accept_reply t m) v m.at (refusing (refusal_number refusal))
   unfolding accept_reply
-  reply_refused k l e b = makes_refused (λ t. message_refusal t m) (λ t. on_held t m) l (λ t f. e ∙ message_seen t m.at b v f m)
+  reply_refused refusal e b = makes_refused (λ t. message_refusal t m) (λ t. on_held t m) (number_some refusal) (λ t f. e ∙ message_seen t m.at b v f m)
 
-  pub prepare_refused : (k : ℕ) → 0 < k → k ≡ message_in v m → MakesForAny (λ t. exp_prepare t m) v m.at (refusing k)
+  pub prepare_refused : (refusal : Refusal) → refusal_number refusal ≡ message_in v m → MakesForAny (λ t. exp_prepare t m) v m.at (refusing (refusal_number refusal))
   unfolding exp_prepare
-  prepare_refused k l e b =
-      makes_refused (λ t. message_refusal t m) (λ t. on_greater (nulls_to t m.at) m) l (λ t f. e ∙ message_seen t m.at b v f m)
+  prepare_refused refusal e b =
+      makes_refused (λ t. message_refusal t m) (λ t. on_greater (nulls_to t m.at) m) (number_some refusal) (λ t f. e ∙ message_seen t m.at b v f m)
 
   module _ (none : message_in v m ≡ 0) where
     -- ---- an AcceptReply that is not refused
@@ -123,10 +126,10 @@ module _ (v : View) (m : Message) where
 -- ---- Lead
 
 module _ (v : View) (at : Place) where
-  pub lead_refused : (k : ℕ) → 0 < k → k ≡ lead_in v at → MakesForAny (λ t. lead_slot t at) v at (refusing k)
+  pub lead_refused : (refusal : Refusal) → refusal_number refusal ≡ lead_in v at → MakesForAny (λ t. lead_slot t at) v at (refusing (refusal_number refusal))
   unfolding lead_slot
-  lead_refused k l e b =
-      makes_refused (λ t. lead_refusal t at) (λ t. done (put_at t at (leading (slot_of t at))) []) l (λ t f. e ∙ lead_seen t at b v f)
+  lead_refused refusal e b =
+      makes_refused (λ t. lead_refusal t at) (λ t. done (put_at t at (leading (slot_of t at))) []) (number_some refusal) (λ t f. e ∙ lead_seen t at b v f)
 
   pub lead_leading : Seven v → lead_in v at ≡ 0 → MakesForAny (λ t. lead_slot t at) v at (doing Extents.Slot (leading v.slot) [])
   unfolding lead_slot

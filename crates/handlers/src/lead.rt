@@ -16,9 +16,7 @@ use table::table::Table;
 pub fn lead(table: Table, at: Place) -> Outcome
     ensures { result ≡ outcome_of table (lead_slot table at) }
 {
-    let view = look_plain(table, at);
-    let change = led(view, at);
-    change.apply(table, at)
+    led(look_plain(table, at), at).apply(table, at)
 }
 
 // The decision, whatever the batch that the view was made for.
@@ -26,14 +24,11 @@ pub fn led(view: View, at: Place) -> Change
     requires { Seven view }
     ensures { MakesForAny (λ t. lead_slot t at) view at result }
 {
-    let config = view.config;
-    let number = refusal::of_led(view.within, config.n, view.held, at);
-    if 0 < number {
-        return Change::refused(number);
+    if let Err(refusal) = refusal::of_led(view.within, view.config.n, view.held, at) {
+        return Change::refused(refusal.number());
     }
-    let slot = view.slot;
     Change {
-        slot: slot.lead(),
+        slot: view.slot.lead(),
         output: Output::NONE,
         answer: Answer::Done,
         extent: Extent::Slot,

@@ -17,9 +17,7 @@ pub fn exp_prepare(table: Table, message: Message) -> Outcome
     ensures { result ≡ outcome_of table (exp_prepare table message) }
 {
     let at = message.at;
-    let view = look_plain(table, at);
-    let change = answered(view, message);
-    change.apply(table, at)
+    answered(look_plain(table, at), message).apply(table, at)
 }
 
 // The decision, whatever the batch that the view was made for.
@@ -27,10 +25,8 @@ pub fn answered(view: View, message: Message) -> Change
     requires { Seven view }
     ensures { MakesForAny (λ t. exp_prepare t message) view message.at result }
 {
-    let config = view.config;
-    let number = refusal::of_message(view.within, config.n, message);
-    if 0 < number {
-        return Change::refused(number);
+    if let Err(refusal) = refusal::of_message(view.within, view.config.n, message) {
+        return Change::refused(refusal.number());
     }
     let slot = view.slot;
     if message.ballot <= slot.ballot {
@@ -40,10 +36,9 @@ pub fn answered(view: View, message: Message) -> Change
         to: message.peer,
         asked: message.ballot,
     };
-    let reply = Record::of(what, message.at, slot);
     Change {
         slot: slot.hear(message.peer),
-        output: Output::one(reply),
+        output: Output::one(Record::of(what, message.at, slot)),
         answer: Answer::Done,
         extent: Extent::Slot,
     }

@@ -22,9 +22,7 @@ pub fn accept_reply(table: Table, message: Message) -> Outcome
     ensures { result ≡ outcome_of table (accept_reply table message) }
 {
     let at = message.at;
-    let view = look_plain(table, at);
-    let change = reply(view, message);
-    change.apply(table, at)
+    reply(look_plain(table, at), message).apply(table, at)
 }
 
 // The decision, whatever the batch that the view was made for.
@@ -32,52 +30,39 @@ pub fn reply(view: View, message: Message) -> Change
     requires { Seven view }
     ensures { MakesForAny (λ t. accept_reply t message) view message.at result }
 {
-    let config = view.config;
-    let number = refusal::of_message(view.within, config.n, message);
-    if 0 < number {
-        return Change::refused(number);
+    if let Err(refusal) = refusal::of_message(view.within, view.config.n, message) {
+        return Change::refused(refusal.number());
     }
-    if !view.held {
+    if !view.held || !heeds(view.slot, message) {
         return Change::ignored(Extent::Nothing);
     }
-    let slot = view.slot;
-    if !heeds(slot, message) {
-        return Change::ignored(Extent::Nothing);
-    }
-    marked(config, message.at, slot.mark(message.peer))
+    marked(view.config, message.at, view.slot.mark(message.peer))
 }
 
 // Accepting, of the message's ballot, led, and the peer not marked yet.
+#[tactic(auto, unfolding(crate::specs::Replies::heeds))]
 fn heeds(slot: Slot, message: Message) -> bool
     requires { message.peer < 7 }
     ensures { result ≡ heeds slot message }
 {
-    let status = slot.status;
-    if status.rank() != Status::Accepting.rank() {
-        return false;
-    }
-    if slot.ballot != message.ballot {
-        return false;
-    }
-    if !slot.led {
-        return false;
-    }
-    let peer = message.peer;
-    !slot.marks[peer]
+    slot.status == Status::Accepting
+        && slot.ballot == message.ballot
+        && slot.led
+        && !slot.marks[message.peer]
 }
 
 // The slot with its new mark; committed where that makes a simple quorum.
 fn marked(config: Config, at: Place, slot: Slot) -> Change
     ensures { result ≡ marking config.simple at slot }
 {
-    let marks = slot.marks;
-    if marks::count(marks) < config.simple {
-        return Change {
-            slot: slot,
-            output: Output::NONE,
-            answer: Answer::Done,
-            extent: Extent::Slot,
-        };
+    let marked = Change {
+        slot,
+        output: Output::NONE,
+        answer: Answer::Done,
+        extent: Extent::Slot,
+    };
+    if marks::count(slot.marks) < config.simple {
+        return marked;
     }
     let committed = slot.commit();
     let log = Record::of(What::Log, at, committed);
@@ -85,7 +70,6 @@ fn marked(config: Config, at: Place, slot: Slot) -> Change
     Change {
         slot: committed,
         output: Output::two(log, notice),
-        answer: Answer::Done,
-        extent: Extent::Slot,
+        ..marked
     }
 }

@@ -4,7 +4,9 @@ use mathlib.Core.Bool.{true}
 use Prim.Native.Nat.{ℕ, zero, suc, ◌<◌, ◌≤◌}
 use native.Mathlib.Omega.{arith}
 use borrow.Author.Tests.{ltb-true, leb-true}
-use Rattle.base.specs.Refusals.{first_refusal, sequence_limit}
+use Rattle.base.specs.Refusals.{first_refusal, sequence_limit, refusal_number}
+use Rattle.base.specs.declared.refusals.Refusal.{Refusal}
+use Rattle.base.specs.declared.refusals.Refusal.TheVariants.{OutsideBounds, NoReplica, NoColumn, BadDependency, BadBatch, OverLimit, NoSlot, ShortOrder, Cut, Unreadable, TooLong}
 use Rattle.base.proofs.RefusalLaws.{first_passed, append_refused, first_append_passed}
 use Rattle.deps.specs.Sets.{set_fits}
 use Rattle.deps.specs.Batches.{batch_fits}
@@ -16,6 +18,20 @@ use Rattle.bounds.proofs.BoundLaws.{row_below}
 use Rattle.outcomes.specs.Refusal.{message_tests, contents_tests, lead_tests, message_refusal, proposal_refusal, lead_refusal}
 use Rattle.outcomes.specs.declared.message.Message.{Message}
 use Rattle.outcomes.specs.declared.message.Proposal.{Proposal}
+
+-- no refusal has the number 0
+pub number_some : (refusal : Refusal) → 0 < refusal_number refusal
+number_some OutsideBounds = omega arith
+number_some NoReplica = omega arith
+number_some NoColumn = omega arith
+number_some BadDependency = omega arith
+number_some BadBatch = omega arith
+number_some OverLimit = omega arith
+number_some NoSlot = omega arith
+number_some ShortOrder = omega arith
+number_some Cut = omega arith
+number_some Unreadable = omega arith
+number_some TooLong = omega arith
 
 -- a table within the bounds, and a place in it
 pub record Placed (t : Table) (at : Place) : Type 0 where

@@ -14,13 +14,13 @@ pub struct Outcome {
 }
 
 impl Outcome {
-    // The table as it was before the call.
+    // The table as it was before the call. By number and not by `Refusal`: it takes every number, and a type would ask more.
     pub fn refused(table: Table, number: u64) -> Outcome
         ensures { result ≡ outcome_of table (refused number) }
     {
         Outcome {
-            answer: Answer::Refused { number: number },
-            table: table,
+            answer: Answer::Refused { number },
+            table,
             output: Output::NONE,
         }
     }
@@ -30,8 +30,8 @@ impl Outcome {
     {
         Outcome {
             answer: Answer::Done,
-            table: table,
-            output: output,
+            table,
+            output,
         }
     }
 }

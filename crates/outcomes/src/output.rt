@@ -47,22 +47,20 @@ impl Record {
     pub fn of(what: What, at: Place, slot: Slot) -> Record
         ensures { result ≡ record_of what at slot }
     {
-        let status = slot.status;
-        let deps = slot.deps;
-        let batch = slot.batch;
         Record {
-            what: what,
-            at: at,
+            what,
+            at,
             ballot: slot.ballot,
-            status: status,
+            status: slot.status,
             seq: slot.seq,
-            deps: deps,
-            batch: batch,
+            deps: slot.deps,
+            batch: slot.batch,
         }
     }
 }
 
-// The first count records, in order. No call puts out more than two.
+// The first count records, in order. No call puts out more than two. Not a Vec: the libraries have no heap, and `output_of`
+// says what stands past the count too.
 #[derive(Clone, Copy)]
 pub struct Output {
     pub count: usize,

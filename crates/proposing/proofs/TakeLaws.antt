@@ -2,8 +2,9 @@
 use mathlib.Core.Path.{◌≡◌, ap, sym, ◌∙◌}
 use mathlib.Core.List.{[], ◌∷◌}
 use lib.ListN.{length}
-use Prim.Native.Nat.{ℕ, ◌<◌, ◌≤◌}
-use Rattle.base.specs.Refusals.{over_limit, sequence_limit}
+use Prim.Native.Nat.{◌<◌, ◌≤◌}
+use Rattle.base.specs.Refusals.{over_limit, sequence_limit, refusal_number}
+use Rattle.base.specs.declared.refusals.Refusal.{Refusal}
 use Rattle.slots.specs.declared.slot.Slot.{Slot}
 use Rattle.table.specs.Table.{slot_of, nulls_to}
 use Rattle.table.specs.declared.table.Table.{Table}
@@ -12,6 +13,7 @@ use Rattle.outcomes.specs.Outcome.{outcome_of}
 use Rattle.outcomes.specs.Refusal.{proposal_refusal}
 use Rattle.outcomes.specs.declared.message.Proposal.{Proposal}
 use Rattle.outcomes.proofs.OutcomeLaws.{when_not}
+use Rattle.outcomes.proofs.RefusalLaws.{number_some}
 use Rattle.changes.specs.View.{view_of}
 use Rattle.changes.specs.Change.{Makes, Seven, refusing, ignoring, doing}
 use Rattle.changes.specs.declared.view.View.{View}
@@ -31,10 +33,10 @@ abbrev pub Takes : Phase → View → Proposal → Change → Type 0
 Takes phase v p c = Makes (λ t. proposed phase t p) v p.message.at p.batch c
 
 module _ (phase : Phase) (v : View) (p : Proposal) where
-  pub takes_refused : (k : ℕ) → 0 < k → k ≡ proposal_in v p → Takes phase v p (refusing k)
+  pub takes_refused : (refusal : Refusal) → refusal_number refusal ≡ proposal_in v p → Takes phase v p (refusing (refusal_number refusal))
   unfolding proposed
-  takes_refused k l e =
-      makes_refused (λ t. proposal_refusal t p) (λ t. on_ballot phase (nulls_to t p.message.at) p) l
+  takes_refused refusal e =
+      makes_refused (λ t. proposal_refusal t p) (λ t. on_ballot phase (nulls_to t p.message.at) p) (number_some refusal)
       (λ t f. e ∙ proposal_seen t p.message.at p.batch v f p)
 
   -- where it is not refused, ballot and sequence decide, of the table with its null slots

@@ -1,6 +1,7 @@
 -- PreAccept, Accept and CommitNotice.
 use Rattle.std.specs.Prelude.{[], ◌∷◌, cond, leb, ℕ, suc, max}
 use Rattle.base.specs.Refusals.{over_limit, sequence_limit}
+use Rattle.base.specs.declared.status.Status.{Status}
 use Rattle.base.specs.declared.status.Status.TheVariants.{PreAccepting, Accepting, Committed}
 use Rattle.deps.specs.Sets.{union_of}
 use Rattle.deps.specs.declared.batches.Batch.{Batch}
@@ -46,6 +47,12 @@ values_from phase mine highest p = phase_values phase (raised_from mine highest 
 
 abbrev pub values_of : Phase → Table → Proposal → Values
 values_of phase t p = phase_values phase (raised_by t p.batch (given p)) (given p)
+
+-- the status that the slot is stored with
+abbrev pub status_after : Phase → Status
+status_after PreAccept = PreAccepting
+status_after Accept = Accepting
+status_after CommitNotice = Committed
 
 -- the source is the peer, and not touched by a CommitNotice
 abbrev pub stored_for : Phase → Slot → Message → Values → Batch → Slot

@@ -1,12 +1,12 @@
 // PreAccept, Accept and CommitNotice.
-ghost use Rattle.std.specs.Prelude.{◌≡◌, ◌<◌, ◌≤◌, max};
+ghost use Rattle.std.specs.Prelude.{◌≡◌, ◌<◌, ◌≤◌};
 ghost use Rattle.base.specs.Refusals.{sequence_limit};
 ghost use Rattle.outcomes.specs.Outcome.{outcome_of};
 ghost use Rattle.changes.specs.Change.{Makes, Seven};
-ghost use Rattle.proposing.specs.Proposals.{pre_accept, accept, commit_notice, proposed, values_from, raised_from, stored_for};
+ghost use Rattle.proposing.specs.Proposals.{pre_accept, accept, commit_notice, proposed, values_from, raised_from, status_after, stored_for};
 
 use base::answer::Answer;
-use base::refusals;
+use base::refusals::{Refusal, SEQUENCE_LIMIT};
 use base::status::Status;
 use changes::change::{Change, Extent};
 use changes::view::{View, look};
@@ -25,6 +25,19 @@ pub enum Phase {
     PreAccept,
     Accept,
     CommitNotice,
+}
+
+impl Phase {
+    // Of the slot once it is stored.
+    fn status(self) -> Status
+        ensures { result ≡ status_after self }
+    {
+        match self {
+            Phase::PreAccept => Status::PreAccepting,
+            Phase::Accept => Status::Accepting,
+            Phase::CommitNotice => Status::Committed,
+        }
+    }
 }
 
 // What goes into the slot: a sequence that may be over the limit, and dependencies.
@@ -56,12 +69,9 @@ pub fn commit_notice(table: Table, proposal: Proposal) -> Outcome
 fn propose(phase: Phase, table: Table, proposal: Proposal) -> Outcome
     ensures { result ≡ outcome_of table (proposed phase table proposal) }
 {
-    let message = proposal.message;
-    let at = message.at;
-    let batch = proposal.batch;
-    let view = look(table, at, batch);
-    let change = take(phase, view, proposal);
-    change.apply(table, at)
+    let at = proposal.message.at;
+    let view = look(table, at, proposal.batch);
+    take(phase, view, proposal).apply(table, at)
 }
 
 // What the three have in common: refusals, the ballot, the slot to be stored, the log record. The view is of the proposal's
@@ -70,26 +80,21 @@ pub fn take(phase: Phase, view: View, proposal: Proposal) -> Change
     requires { Seven view }
     ensures { Makes (λ t. proposed phase t proposal) view proposal.message.at proposal.batch result }
 {
-    let config = view.config;
-    let number = refusal::of_proposal(view.within, config.n, proposal);
-    if 0 < number {
-        return Change::refused(number);
+    if let Err(refusal) = refusal::of_proposal(view.within, view.config.n, proposal) {
+        return Change::refused(refusal.number());
     }
     let message = proposal.message;
-    let slot = view.slot;
-    if message.ballot < slot.ballot {
+    if message.ballot < view.slot.ballot {
         return Change::ignored(Extent::Nulls);
     }
     let values = values_for(phase, view, proposal);
-    if refusals::SEQUENCE_LIMIT < values.seq {
-        return Change::refused(refusals::OVER_LIMIT);
+    if SEQUENCE_LIMIT < values.seq {
+        return Change::refused(Refusal::OverLimit.number());
     }
-    let batch = proposal.batch;
-    let stored = stored_for(phase, slot, message, values, batch);
-    let log = Record::of(What::Log, message.at, stored);
+    let stored = stored_for(phase, view.slot, message, values, proposal.batch);
     Change {
         slot: stored,
-        output: Output::one(log),
+        output: Output::one(Record::of(What::Log, message.at, stored)),
         answer: Answer::Done,
         extent: Extent::Keys,
     }
@@ -98,16 +103,13 @@ pub fn take(phase: Phase, view: View, proposal: Proposal) -> Change
 fn values_for(phase: Phase, view: View, proposal: Proposal) -> Values
     ensures { result ≡ values_from phase view.mine view.highest proposal }
 {
-    let deps = proposal.deps;
     let given = Values {
         seq: proposal.seq,
-        deps: deps,
+        deps: proposal.deps,
     };
-    let mine = view.mine;
     match phase {
-        Phase::PreAccept => raised(given, mine, view.highest),
-        Phase::Accept => given,
-        Phase::CommitNotice => given,
+        Phase::PreAccept => raised(given, view.mine, view.highest),
+        Phase::Accept | Phase::CommitNotice => given,
     }
 }
 
@@ -115,18 +117,10 @@ fn values_for(phase: Phase, view: View, proposal: Proposal) -> Values
 fn raised(given: Values, mine: DepSet, highest: u32) -> Values
     ensures { result ≡ raised_from mine highest given }
 {
-    let deps = given.deps;
-    let next = 1 + highest as u64;
     Values {
-        seq: greater(given.seq, next),
-        deps: deps.union(mine),
+        seq: given.seq.max(1 + u64::from(highest)),
+        deps: given.deps.union(mine),
     }
-}
-
-fn greater(a: u64, b: u64) -> u64
-    ensures { result ≡ max a b }
-{
-    if a < b { b } else { a }
 }
 
 // The slot with the message's ballot, the phase's status and the values; a CommitNotice does not touch the source.
@@ -135,15 +129,15 @@ fn stored_for(phase: Phase, slot: Slot, message: Message, values: Values, batch:
     requires seq_le_sequence_limit { values.seq ≤ sequence_limit }
     ensures { result ≡ stored_for phase slot message values batch }
 {
-    let seq = values.seq as u32;
-    let deps = values.deps;
+    let stored = slot.store(
+        message.ballot,
+        phase.status(),
+        values.seq as u32,
+        values.deps,
+        batch,
+    );
     match phase {
-        Phase::PreAccept => slot
-            .store(message.ballot, Status::PreAccepting, seq, deps, batch)
-            .hear(message.peer),
-        Phase::Accept => slot
-            .store(message.ballot, Status::Accepting, seq, deps, batch)
-            .hear(message.peer),
-        Phase::CommitNotice => slot.store(message.ballot, Status::Committed, seq, deps, batch),
+        Phase::PreAccept | Phase::Accept => stored.hear(message.peer),
+        Phase::CommitNotice => stored,
     }
 }

@@ -6,13 +6,13 @@ use Rattle.deps.specs.Batches.{no_op}
 use Rattle.changes.proofs.ViewLaws.{seven_seen}
 use Rattle.handlers.proofs.prepare.exp_prepare.Goals as goal
 
-pub answered-change-requires : goal.answered-change-requires
-answered-change-requires c = rw c.look_plain-view.ensures (seven_seen _ _ _)
+pub answered-requires : goal.answered-requires
+answered-requires c = rw c.look_plain.ensures (seven_seen _ _ _)
 
 pub apply-requires : goal.apply-requires
-apply-requires c = (c.answered-change.ensures no_op).inside
+apply-requires c = (c.answered.ensures no_op).inside
 
 pub returns : goal.returns
 returns c =
     let l : length c.args.table.lens ≡ 7 = search rules in
-    c.apply.ensures ∙ (c.answered-change.ensures no_op).same c.args.table l (sym c.look_plain-view.ensures)
+    c.apply.ensures ∙ (c.answered.ensures no_op).same c.args.table l (sym c.look_plain.ensures)

@@ -2,5 +2,5 @@
 use Rattle.changes.proofs.ViewLaws.{seven_seen}
 use Rattle.proposing.proofs.proposals.propose.Goals as goal
 
-pub take-change-requires : goal.take-change-requires
-take-change-requires c = rw c.look-view.ensures (seven_seen _ _ _)
+pub take-requires : goal.take-requires
+take-requires c = rw c.look-view.ensures (seven_seen _ _ _)
