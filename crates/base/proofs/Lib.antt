@@ -3,6 +3,7 @@ pub mod Tests
 pub mod RefusalLaws
 pub mod Lists
 pub mod Loops
+pub mod Chains
 pub mod ConfigLaws
 pub mod MarkLaws
 pub mod LogStatusLaws

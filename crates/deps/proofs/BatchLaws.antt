@@ -16,6 +16,10 @@ use Rattle.deps.specs.declared.batches.Kind.TheVariants.{Other, Put, Get}
 use Rattle.deps.specs.declared.batches.Request.{Request}
 use Rattle.deps.specs.declared.batches.Batch.{Batch}
 use Rattle.base.proofs.Loops.{all_at, all_each, both_true}
+use Rattle.base.proofs.Chains.{all_same, all_listed, all_pointwise}
+use lib.Pointwise.{pointwise}
+use Rattle.base.specs.Below.{all_below}
+use Rattle.std.specs.List.{list_all}
 
 pub held_number : (b : Batch) → length b.reqs ≡ 4 → length (present b) ≡ min b.count 4
 held_number b l = rw (length-take, l)
@@ -69,6 +73,13 @@ pub each_batch_fits : (b : Batch) → length b.reqs ≡ 4 → b.count ≤ 4 → 
 unfolding batch_fits
 each_batch_fits b l n h =
     rw (le-leb b.count 4 n, all_each (request_fits b) b.count (λ i lt. rw (← get_or-take b.count b.reqs i no_request lt) (named_fit_lem (present b) h i (omega (arith, held_number b l)))))
+
+-- a chain over the requests that it holds tests as many
+pub present_fit : (b : Batch) → b.count ≤ length b.reqs → list_all (λ (q : Request). kind_fits q.kind) (present b) ≡ all_below b.count (request_fits b)
+present_fit b h =
+    let l : length (present b) ≡ b.count = omega (arith, length-take b.count b.reqs) in
+    all_listed (λ (q : Request). kind_fits q.kind) (present b) no_request
+    ∙ rw l (all_same _ (request_fits b) b.count (λ i k. ap (λ (q : Request). kind_fits q.kind) (get_or-take b.count b.reqs i no_request k)))
 
 -- ---- equality: the tests say so exactly of equal kinds, requests, batches
 
@@ -131,6 +142,16 @@ batches_same a b la lb n e =
     at i h =
         let ha = held_number a la in
         sym (get_or-take a.count a.reqs i no_request (omega arith)) ∙ ap (λ (l : List Request). get_or l i no_request) e ∙ get_or-take b.count b.reqs i no_request (omega arith)
+
+-- the test says what `==` of the requests that they hold says, by a test of requests that says what `same_request` says
+pub present_same : (eq : Request → Request → Bool) → ((p q : Request) → eq p q ≡ same_request p q) → (a b : Batch) → length a.reqs ≡ 4 → length b.reqs ≡ 4 → a.count ≡ b.count → pointwise eq (present a) (present b) ≡ same_batch a b
+unfolding same_batch
+present_same eq h a b la lb n =
+    let ha = held_number a la in
+    let hb = held_number b lb in
+    all_pointwise eq same_request h (present a) (present b) no_request (omega arith)
+    ∙ rw (ha, eq-eqb a.count b.count n)
+    (all_same _ (same_at a b) (min a.count 4) (λ i l. rw (get_or-take a.count a.reqs i no_request (omega arith), get_or-take b.count b.reqs i no_request (omega arith)) refl))
 
 -- so they are equivalences, whatever the batches hold
 pub sym_requests : (p q : Request) → same_request p q ≡ true → same_request q p ≡ true

@@ -1,24 +1,24 @@
 // Kinds, requests and batches, by value.
 ghost use Rattle.std.specs.Prelude.{◌≡◌, [], ◌∷◌, length};
-ghost use Rattle.deps.specs.Batches.{batch_of, with_request, present, kind_fits, batch_fits, same_kind, same_request, same_batch};
+ghost use Rattle.deps.specs.Batches.{batch_of, with_request, present, kind_fits, batch_fits, same_batch};
 
 // A key is wider than its bound, so that one out of bounds can be held, and refused.
-#[derive(Clone, Copy)]
+#[derive(Clone, Copy, Debug, PartialEq, Eq)]
 pub enum Kind {
     Other,
     Put { key: u16, value: u64 },
     Get { key: u16 },
 }
 
-#[derive(Clone, Copy)]
+#[derive(Clone, Copy, Debug, PartialEq, Eq)]
 pub struct Request {
     pub client: u64,
     pub id: u64,
     pub kind: Kind,
 }
 
-// The first count requests; what stands past them is nobody's.
-#[derive(Clone, Copy)]
+// The first count requests; what stands past them is nobody's. An array and a count, since there is no heap.
+#[derive(Clone, Copy, Debug)]
 pub struct Batch {
     pub count: usize,
     pub reqs: [Request; 4],
@@ -35,34 +35,6 @@ impl Kind {
             Kind::Get { key } => key <= 255,
         }
     }
-
-    // A request of kind other has neither key nor value to compare.
-    fn same(self, other: Kind) -> bool
-        ensures { result ≡ same_kind self other }
-    {
-        match self {
-            Kind::Other => match other {
-                Kind::Other => true,
-                Kind::Put { key: _, value: _ } => false,
-                Kind::Get { key: _ } => false,
-            },
-            Kind::Put { key, value } => match other {
-                Kind::Other => false,
-                Kind::Put { key: k, value: v } => {
-                    if key != k {
-                        return false;
-                    }
-                    value == v
-                }
-                Kind::Get { key: _ } => false,
-            },
-            Kind::Get { key } => match other {
-                Kind::Other => false,
-                Kind::Put { key: _, value: _ } => false,
-                Kind::Get { key: k } => key == k,
-            },
-        }
-    }
 }
 
 impl Request {
@@ -72,20 +44,6 @@ impl Request {
         id: 0,
         kind: Kind::Other,
     };
-
-    fn same(self, other: Request) -> bool
-        ensures { result ≡ same_request self other }
-    {
-        if self.client != other.client {
-            return false;
-        }
-        if self.id != other.id {
-            return false;
-        }
-        let kind = self.kind;
-        let others = other.kind;
-        kind.same(others)
-    }
 }
 
 impl Batch {
@@ -107,10 +65,9 @@ impl Batch {
         ensures { result ≡ with_request self request }
     {
         let mut out = self;
-        let count = out.count;
-        if count < 4 {
-            out.reqs[count] = request;
-            out.count = count + 1;
+        if out.count < 4 {
+            out.reqs[out.count] = request;
+            out.count += 1;
         }
         out
     }
@@ -119,48 +76,27 @@ impl Batch {
     pub fn held(self) -> usize
         ensures { result ≡ length (present self) }
     {
-        let count = self.count;
-        if count <= 4 { count } else { 4 }
+        self.count.min(4)
+    }
+
+    // The requests that it holds.
+    pub fn requests(&self) -> &[Request]
+        ensures { result.now ≡ present self.now }
+    {
+        &self.reqs[..self.held()]
     }
 
     // At most 4 requests, and no key of a put or get above 255.
     pub fn fits(self) -> bool
         ensures { result ≡ batch_fits self }
     {
-        let count = self.count;
-        if 4 < count {
-            return false;
-        }
-        let mut i: usize = 0;
-        while i < count {
-            let request = self.reqs[i];
-            let kind = request.kind;
-            if !kind.fits() {
-                return false;
-            }
-            i += 1;
-        }
-        true
+        self.count <= 4 && self.requests().iter().all(|request| request.kind.fits())
     }
 
     // Whether the two have one count and the same requests.
     pub fn same(self, other: Batch) -> bool
         ensures { result ≡ same_batch self other }
     {
-        let count = self.count;
-        if count != other.count {
-            return false;
-        }
-        let held = self.held();
-        let mut i: usize = 0;
-        while i < held {
-            let mine = self.reqs[i];
-            let others = other.reqs[i];
-            if !mine.same(others) {
-                return false;
-            }
-            i += 1;
-        }
-        true
+        self.count == other.count && self.requests() == other.requests()
     }
 }

@@ -1,7 +1,7 @@
 -- `base::marks::fit` meets its contract: no mark so far stands at n or more.
 use mathlib.Core.Path.{◌≡◌}
 use mathlib.Core.Bool.{true}
-use Prim.Native.Nat.{◌≤◌, ◌-◌}
+use Prim.Native.Nat.{◌≤◌}
 use Rattle.base.specs.Below.{all_below}
 use Rattle.base.specs.Marks.{mark_fits}
 use Rattle.base.proofs.marks.fit.Given as goal

@@ -1,34 +1,25 @@
--- `deps::batches::Batch::fits` meets its contract: every request passed so far fits.
-use mathlib.Core.Path.{◌≡◌, sym, ◌∙◌}
-use mathlib.Core.Bool.{true}
+-- `deps::batches::Batch::fits` meets its contract: the chain tests each request that it holds.
+use mathlib.Core.Path.{◌≡◌, ◌∙◌}
 use native.Mathlib.Omega.{arith}
-use borrow.Author.Tests.{le-leb, lt-leb}
-use Rattle.base.specs.Below.{all_below}
-use Rattle.deps.specs.Batches.{request_fits, batch_fits}
-use Rattle.base.proofs.Loops.{all_none, all_more, all_not}
+use lib.ListN.{length}
+use borrow.Author.Tests.{tests, le-leb, lt-leb}
 use borrow.Author.Rules.{rules}
+use Rattle.std.proofs.lemmas.Iterator.{YieldsList-from_slice}
+use Rattle.std.proofs.lemmas.Iterator.Search.{all_from_yields_List}
+use Rattle.base.proofs.Lists.{length_mapped}
+use Rattle.deps.specs.Batches.{present, kind_fits, batch_fits}
+use Rattle.deps.specs.declared.batches.Request.{Request}
+use Rattle.deps.proofs.BatchLaws.{present_fit}
 use Rattle.deps.proofs.batches.Batch.fits.Goals as goal
 
-pub returns-then-count-gt4 : goal.returns-then-count-gt4
+pub returns-then-self-le4 : goal.returns-then-self-le4
 unfolding batch_fits
-returns-then-count-gt4 c = simp (lt-leb _ _ c.if-count-gt4.true)
-
-pub loop-i-init : goal.loop-i-init
-loop-i-init c = (search rules, all_none _)
-
-pub returns-then-not-fits : goal.returns-then-not-fits
-unfolding batch_fits
-returns-then-not-fits c =
+returns-then-self-le4 c =
     let b = c.args.self in
-    simp (le-leb _ _ c.if-count-gt4.false, all_not (request_fits b) b.count _ c.loop-i-test.true (sym c.fits.ensures ∙ c.if-not-fits.true))
+    let l : length b.reqs ≡ 4 = search (rules, length_mapped) in
+    all_from_yields_List (λ (q : Request). kind_fits q.kind) _ _ _ c.all.ensures.ran (YieldsList-from_slice (present b) (cc)) (λ x r q k. search (rules, tests))
+    ∙ present_fit b (omega (arith, l)) ∙ simp (le-leb _ _ c.if-self-le4.true)
 
-pub loop-i-preserved : goal.loop-i-preserved
-loop-i-preserved c = (search rules, all_more _ _ c.loop-i.invariant.1 (sym c.fits.ensures ∙ c.if-not-fits.false))
-
-pub returns : goal.returns
+pub returns-else-self-le4 : goal.returns-else-self-le4
 unfolding batch_fits
-returns c =
-    let b = c.args.self in
-    let e : c.loop-i.i ≡ b.count = omega arith in
-    let h : all_below b.count (request_fits b) ≡ true = rw e at c.loop-i.invariant.1 in
-    simp (le-leb _ _ c.if-count-gt4.false, h)
+returns-else-self-le4 c = simp (lt-leb _ _ c.if-self-le4.false)

@@ -4,10 +4,10 @@ use borrow.Author.Tests.{lt-ltb, le-ltb}
 use Rattle.deps.specs.Batches.{with_request}
 use Rattle.deps.proofs.batches.Batch.with.Goals as goal
 
-pub returns-then-count-lt4 : goal.returns-then-count-lt4
+pub returns-then-out-lt4 : goal.returns-then-out-lt4
 unfolding with_request
-returns-then-count-lt4 c = simp (lt-ltb _ _ c.if-count-lt4.true, add-one)
+returns-then-out-lt4 c = simp (lt-ltb _ _ c.if-out-lt4.true, add-one)
 
-pub returns-else-count-lt4 : goal.returns-else-count-lt4
+pub returns-else-out-lt4 : goal.returns-else-out-lt4
 unfolding with_request
-returns-else-count-lt4 c = simp (le-ltb _ _ c.if-count-lt4.false)
+returns-else-out-lt4 c = simp (le-ltb _ _ c.if-out-lt4.false)

@@ -10,7 +10,7 @@ use Rattle.deps.proofs.sets.DepSet.raised.Goals as goal
 
 pub returns-then-row-lt7 : goal.returns-then-row-lt7
 unfolding raised_to
-returns-then-row-lt7 c = rw (c.greater-number.ensures, add-one)
+returns-then-row-lt7 c = rw (c.max.ensures, add-one)
 
 pub returns-else-row-lt7 : goal.returns-else-row-lt7
 unfolding raised_to
