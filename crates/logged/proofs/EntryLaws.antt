@@ -1,7 +1,7 @@
 -- The ways of the entry: refused, or done by what was logged.
 use mathlib.Core.Path.{◌≡◌, refl, ◌∙◌}
 use mathlib.Core.List.{List, []}
-use mathlib.Core.Bool.{Bool, true, false, not}
+use mathlib.Core.Bool.{true, not}
 use Prim.Native.Nat.{ℕ, zero, suc, ◌+◌, ◌≤◌, ◌<◌}
 use native.Mathlib.Omega.{arith}
 use lib.ListN.{length}
@@ -23,6 +23,8 @@ use Rattle.logged.specs.Logged.{none_run, outcome_on, reply_status, logged_on, o
 use Rattle.base.specs.declared.log_status.LogStatus.{LogStatus}
 use Rattle.base.specs.declared.log_status.LogStatus.TheVariants.{Committed}
 use Rattle.logged.specs.declared.logged.LogOutcome.{LogOutcome}
+use Rattle.logged.specs.declared.replies.Reply.{Reply}
+use Rattle.logged.specs.declared.replies.Reply.TheVariants.{PreAccept, Accept}
 use Rattle.rising.specs.declared.tails.Ran.{Ran}
 use Rattle.logged.proofs.RefusedLaws.{logged_logged}
 
@@ -41,10 +43,10 @@ module _ (t : Table) (at : Place) (status : LogStatus) (list : List ℕ) where
     unfolding logged_of logged_order
     passed r after e f = (e ∙ rw none refl, f ∙ rw none refl)
 
-    pub entry_replied : (accepting : Bool) → status ≡ reply_status accepting → (o : Outcome) → o ≡ outcome_on (reply_status accepting) t at → Meets (none_run o) list
+    pub entry_replied : (reply : Reply) → status ≡ reply_status reply → (o : Outcome) → o ≡ outcome_on (reply_status reply) t at → Meets (none_run o) list
     unfolding logged_on order_on
-    entry_replied true s o e = passed (none_run o) list (rw (s, e) refl) (rw s refl)
-    entry_replied false s o e = passed (none_run o) list (rw (s, e) refl) (rw s refl)
+    entry_replied PreAccept s o e = passed (none_run o) list (rw (s, e) refl) (rw s refl)
+    entry_replied Accept s o e = passed (none_run o) list (rw (s, e) refl) (rw s refl)
 
     pub entry_committed : status ≡ Committed → (ran : Ran) (o : Outcome) (after : List ℕ)
         → ran ≡ ran_from 0 (on_committed t at) → o ≡ outcome Done ran.table [] → after ≡ sets list 0 (on_committed t at).wrote

@@ -1,53 +1,27 @@
 -- What goes out, by the slot's lead and source.
 use mathlib.Core.Path.{◌≡◌, refl, ap, sym, ◌∙◌}
 use mathlib.Core.List.{[], ◌∷◌}
-use mathlib.Core.Bool.{Bool, true, false}
-use Prim.Native.Nat.{ℕ, zero, suc, ◌-◌, ◌≤◌, ◌<◌}
-use native.Mathlib.Omega.{arith}
+use mathlib.Core.Bool.{true, false}
 use Rattle.base.specs.declared.answer.Answer.TheVariants.{Done}
 use Rattle.deps.specs.Batches.{no_op}
-use Rattle.slots.specs.declared.slot.Slot.{Slot}
 use Rattle.table.specs.Table.{slot_of}
 use Rattle.table.specs.declared.place.Place.{Place}
 use Rattle.table.specs.declared.table.Table.{Table}
 use Rattle.outcomes.specs.Output.{record_of}
-use Rattle.outcomes.specs.Outcome.{outcome, done_with}
+use Rattle.outcomes.specs.Outcome.{done_with}
 use Rattle.outcomes.specs.declared.message.Message.{Message}
 use Rattle.outcomes.specs.declared.outcome.Outcome.{Outcome}
-use Rattle.outcomes.specs.declared.output.What.{What}
-use Rattle.outcomes.specs.declared.output.What.TheVariants.{PreAcceptReply, AcceptReply, NoteToSelf}
+use Rattle.outcomes.specs.declared.output.What.TheVariants.{NoteToSelf}
 use Rattle.changes.specs.View.{view_of}
 use Rattle.changes.specs.Change.{MakesForAny}
 use Rattle.changes.specs.declared.view.View.{View}
 use Rattle.changes.specs.declared.change.Change.{Change}
 use Rattle.changes.proofs.ViewLaws.{config_seen, held_slot}
 use Rattle.handlers.specs.Replies.{accept_reply}
-use Rattle.logged.specs.Replies.{to_source, reply_if, putting_out, pre_accepting_out, own_reply, on_accepting}
+use Rattle.logged.specs.Replies.{to_source, reply_to, putting_out, pre_accepting_out, own_reply, on_accepting}
 use Rattle.logged.specs.Logged.{RepliesWith}
-
--- ---- to the source
-
-module _ (at : Place) (s : Slot) (accepting : Bool) where
-  pub no_source : s.source < 1 → [] ≡ to_source s.source (reply_if accepting) at s
-  no_source l = go s.source l
-    where
-      go : (source : ℕ) → source < 1 → [] ≡ to_source source (reply_if accepting) at s
-      go zero l = refl
-      go (suc peer) l = absurd (omega arith)
-
-  pub some_source : 1 ≤ s.source → record_of (reply_if accepting (s.source - 1)) at s ∷ [] ≡ to_source s.source (reply_if accepting) at s
-  some_source l = go s.source l
-    where
-      go : (source : ℕ) → 1 ≤ source → record_of (reply_if accepting (source - 1)) at s ∷ [] ≡ to_source source (reply_if accepting) at s
-      go zero l = absurd (omega arith)
-      go (suc peer) l =
-          let e : suc peer - 1 ≡ peer = omega arith in
-          rw e refl
-
--- by its name
-named : (reply : ℕ → What) (accepted : Bool) → ((peer : ℕ) → reply_if accepted peer ≡ reply peer) → (at : Place) (s : Slot) (source : ℕ) → to_source source (reply_if accepted) at s ≡ to_source source reply at s
-named reply accepted e at s zero = refl
-named reply accepted e at s (suc peer) = rw (e peer) refl
+use Rattle.logged.specs.declared.replies.Reply.{Reply}
+use Rattle.logged.specs.declared.replies.Reply.TheVariants.{PreAccept, Accept}
 
 -- the AcceptReply from myself, as the view has it
 abbrev my_reply_in : View → Place → Message
@@ -59,26 +33,18 @@ module _ (v : View) (at : Place) (held : v.held ≡ true) where
   its_slot : (t : Table) → view_of t at no_op ≡ v → v.slot ≡ slot_of t at
   its_slot t e = sym (held_slot t at no_op v e held)
 
-  pub note_replies : v.slot.led ≡ true → RepliesWith false v at (putting_out (record_of NoteToSelf at v.slot ∷ []))
+  pub note_replies : v.slot.led ≡ true → RepliesWith PreAccept v at (putting_out (record_of NoteToSelf at v.slot ∷ []))
   unfolding pre_accepting_out
   note_replies l = record { inside = tt; same = λ t lens e. rw (← its_slot t e, l) refl }
 
-  pub source_replies : (accepting : Bool) → v.slot.led ≡ false → RepliesWith accepting v at (putting_out (to_source v.slot.source (reply_if accepting) at v.slot))
+  pub source_replies : (reply : Reply) → v.slot.led ≡ false → RepliesWith reply v at (putting_out (to_source v.slot.source (reply_to reply) at v.slot))
   unfolding pre_accepting_out on_accepting
-  source_replies true l =
-      record {
-        inside = tt;
-        same = λ t lens e. ap (outcome Done t) (named AcceptReply true (λ peer. refl) at v.slot v.slot.source) ∙ rw (← its_slot t e, l) refl;
-      }
-  source_replies false l =
-      record {
-        inside = tt;
-        same = λ t lens e. ap (outcome Done t) (named PreAcceptReply false (λ peer. refl) at v.slot v.slot.source) ∙ rw (← its_slot t e, l) refl;
-      }
+  source_replies PreAccept l = record { inside = tt; same = λ t lens e. rw (← its_slot t e, l) refl }
+  source_replies Accept l = record { inside = tt; same = λ t lens e. rw (← its_slot t e, l) refl }
 
   -- an AcceptReply from myself, by its change
   pub own_replies : v.slot.led ≡ true → (c : Change) → MakesForAny (λ t. accept_reply t (my_reply_in v at)) v at c
-      → RepliesWith true v at (record { slot = c.slot; output = c.output; answer = Done; extent = c.extent })
+      → RepliesWith Accept v at (record { slot = c.slot; output = c.output; answer = Done; extent = c.extent })
   unfolding on_accepting own_reply
   own_replies l c makes =
       record {

@@ -1,5 +1,5 @@
 -- A log event: answer, table, output and order list in every case.
-use Rattle.std.specs.Prelude.{◌≡◌, List, [], Bool, true, false, ℕ, zero, suc, length}
+use Rattle.std.specs.Prelude.{◌≡◌, List, [], ℕ, zero, suc, length}
 use Rattle.std.proofs.lemmas.List.Edits.{sets}
 use Rattle.base.specs.declared.answer.Answer.TheVariants.{Done}
 use Rattle.deps.specs.Batches.{no_op}
@@ -18,6 +18,8 @@ use Rattle.rising.specs.Committed.{on_committed}
 use Rattle.base.specs.declared.log_status.LogStatus.{LogStatus}
 use Rattle.base.specs.declared.log_status.LogStatus.TheVariants.{PreAccepting, Accepting, Committed}
 use Rattle.logged.specs.declared.logged.LogOutcome.{LogOutcome}
+use Rattle.logged.specs.declared.replies.Reply.{Reply}
+use Rattle.logged.specs.declared.replies.Reply.TheVariants.{PreAccept, Accept}
 
 abbrev pub none_run : Outcome → LogOutcome
 none_run o = record { outcome = o; ran = 0 }
@@ -30,14 +32,14 @@ outcome_on Accepting t at = on_accepting t at
 outcome_on Committed t at = outcome Done (on_committed t at).table []
 
 -- what is logged where only replies go out
-abbrev pub reply_status : Bool → LogStatus
-reply_status true = Accepting
-reply_status false = PreAccepting
+abbrev pub reply_status : Reply → LogStatus
+reply_status PreAccept = PreAccepting
+reply_status Accept = Accepting
 
 -- the change makes of every table that looks so what the log event makes of it
-pub record RepliesWith (accepting : Bool) (v : View) (at : Place) (c : Change) : Type 0 where
+pub record RepliesWith (reply : Reply) (v : View) (at : Place) (c : Change) : Type 0 where
   pub inside : Inside c.extent at
-  pub same : (t : Table) → length t.lens ≡ 7 → view_of t at no_op ≡ v → changed t at c ≡ outcome_on (reply_status accepting) t at
+  pub same : (t : Table) → length t.lens ≡ 7 → view_of t at no_op ≡ v → changed t at c ≡ outcome_on (reply_status reply) t at
 
 -- the slots that it runs
 abbrev pub entries_on : LogStatus → Table → Place → List ℕ

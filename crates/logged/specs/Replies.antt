@@ -1,5 +1,5 @@
 -- What goes out once a slot is logged PreAccepting or Accepting. Every record has the slot's present values.
-use Rattle.std.specs.Prelude.{List, [], ◌∷◌, Bool, true, false, cond, ℕ, zero, suc}
+use Rattle.std.specs.Prelude.{List, [], ◌∷◌, cond, ℕ, zero, suc}
 use Rattle.base.specs.declared.answer.Answer.TheVariants.{Done}
 use Rattle.slots.specs.Slot.{null_slot}
 use Rattle.slots.specs.declared.slot.Slot.{Slot}
@@ -17,6 +17,8 @@ use Rattle.outcomes.specs.declared.outcome.Outcome.{Outcome}
 use Rattle.changes.specs.declared.change.Change.{Change}
 use Rattle.changes.specs.declared.change.Extent.TheVariants.{Nothing}
 use Rattle.handlers.specs.Replies.{accept_reply}
+use Rattle.logged.specs.declared.replies.Reply.{Reply}
+use Rattle.logged.specs.declared.replies.Reply.TheVariants.{PreAccept, Accept}
 
 -- a reply to the source, which is 0 for none and p + 1 for the peer p
 abbrev pub to_source : ℕ → (ℕ → What) → Place → Slot → List Record
@@ -43,10 +45,10 @@ on_accepting t at =
     (own_reply t at (slot_of t at).ballot)
     (outcome Done t (to_source (slot_of t at).source AcceptReply at (slot_of t at)))
 
--- the one reply or the other
-abbrev pub reply_if : Bool → ℕ → What
-reply_if true peer = AcceptReply peer
-reply_if false peer = PreAcceptReply peer
+-- the one reply or the other, to a peer
+abbrev pub reply_to : Reply → ℕ → What
+reply_to PreAccept peer = PreAcceptReply peer
+reply_to Accept peer = AcceptReply peer
 
 -- the change that leaves the table as it was
 abbrev pub leaving : Output → Change

@@ -2,9 +2,9 @@
 ghost use Rattle.std.specs.Prelude.{◌≡◌, length};
 ghost use Rattle.logged.specs.Logged.{none_run, logged_of, logged_order};
 
-use super::replies::replied;
+use super::replies::{Reply, replied};
 use base::log_status::LogStatus;
-use base::refusals;
+use base::refusals::Refusal;
 use changes::view::look_plain;
 use outcomes::outcome::Outcome;
 use outcomes::output::Output;
@@ -20,6 +20,15 @@ pub struct LogOutcome {
     pub ran: usize,
 }
 
+// Of a call that runs no slot.
+impl From<Outcome> for LogOutcome {
+    ghost from_gives = { λ outcome result. result ≡ none_run outcome };
+
+    fn from(outcome: Outcome) -> LogOutcome {
+        LogOutcome { outcome, ran: 0 }
+    }
+}
+
 // The slot has been logged with this status. The slots run stand in the order list from its first entry on, as 32 * row +
 // column, in the order in which they run.
 pub fn logged(table: Table, at: Place, status: LogStatus, order: &mut [u8]) -> LogOutcome
@@ -27,34 +36,21 @@ pub fn logged(table: Table, at: Place, status: LogStatus, order: &mut [u8]) -> L
     ensures list { order.new ≡ logged_order table at status order.old }
 {
     if order.len() < 224 {
-        return none_run(Outcome::refused(table, refusals::SHORT_ORDER));
+        return Outcome::refused(table, Refusal::ShortOrder.number()).into();
     }
     let view = look_plain(table, at);
-    let config = view.config;
-    let number = of_led(view.within, config.n, view.held, at);
-    if 0 < number {
-        return none_run(Outcome::refused(table, number));
+    if let Err(refusal) = of_led(view.within, view.config.n, view.held, at) {
+        return Outcome::refused(table, refusal.number()).into();
     }
     match status {
-        LogStatus::PreAccepting => none_run(replied(false, view, at).apply(table, at)),
-        LogStatus::Accepting => none_run(replied(true, view, at).apply(table, at)),
+        LogStatus::PreAccepting => replied(Reply::PreAccept, view, at).apply(table, at).into(),
+        LogStatus::Accepting => replied(Reply::Accept, view, at).apply(table, at).into(),
         LogStatus::Committed => {
             let ran = committed(table, at, order);
-            let after = ran.table;
-            let outcome = Outcome::done(after, Output::NONE);
             LogOutcome {
-                outcome: outcome,
+                outcome: Outcome::done(ran.table, Output::NONE),
                 ran: ran.end,
             }
         }
-    }
-}
-
-fn none_run(outcome: Outcome) -> LogOutcome
-    ensures { result ≡ none_run outcome }
-{
-    LogOutcome {
-        outcome: outcome,
-        ran: 0,
     }
 }

@@ -2,8 +2,9 @@
 ghost use Rattle.std.specs.Prelude.{◌≡◌, [], ◌∷◌, true};
 ghost use Rattle.outcomes.specs.Output.{record_of};
 ghost use Rattle.changes.specs.Change.{Seven};
-ghost use Rattle.logged.specs.Replies.{to_source, reply_if, leaving, putting_out};
+ghost use Rattle.logged.specs.Replies.{to_source, reply_to, leaving, putting_out};
 ghost use Rattle.logged.specs.Logged.{RepliesWith};
+ghost use Rattle.logged.specs.declared.replies.Reply.TheVariants.{Accept};
 
 use base::answer::Answer;
 use changes::change::{Change, Extent};
@@ -14,35 +15,48 @@ use outcomes::output::{Output, Record, What};
 use slots::slot::Slot;
 use table::place::Place;
 
+// Which reply goes out: of a slot logged PreAccepting, or of one logged Accepting.
+#[derive(Clone, Copy, Debug, PartialEq, Eq)]
+pub enum Reply {
+    PreAccept,
+    Accept,
+}
+
+impl Reply {
+    fn to(self, peer: usize) -> What
+        ensures { result ≡ reply_to self peer }
+    {
+        match self {
+            Reply::PreAccept => What::PreAcceptReply { to: peer },
+            Reply::Accept => What::AcceptReply { to: peer },
+        }
+    }
+}
+
 // The decision, for a slot that the table holds. Led, a note to self or, logged Accepting, as an AcceptReply from myself;
 // else a reply to the source; else nothing.
-pub fn replied(accepting: bool, view: View, at: Place) -> Change
+pub fn replied(reply: Reply, view: View, at: Place) -> Change
     requires seven { Seven view }
     requires held_value { view.held ≡ true }
-    ensures { RepliesWith accepting view at result }
+    ensures { RepliesWith reply view at result }
 {
-    let slot = view.slot;
-    if !slot.led {
-        return to_source(accepting, at, slot);
+    if !view.slot.led {
+        return to_source(reply, at, view.slot);
     }
-    if accepting {
-        return own_reply(view, at);
+    match reply {
+        Reply::PreAccept => put_out(What::NoteToSelf, at, view.slot),
+        Reply::Accept => own_reply(view, at),
     }
-    put_out(What::NoteToSelf, at, slot)
 }
 
 // A reply to the source, if the slot has one.
-fn to_source(accepting: bool, at: Place, slot: Slot) -> Change
-    ensures { result ≡ putting_out (to_source slot.source (reply_if accepting) at slot) }
+fn to_source(reply: Reply, at: Place, slot: Slot) -> Change
+    ensures { result ≡ putting_out (to_source slot.source (reply_to reply) at slot) }
 {
-    if slot.source < 1 {
-        return unchanged(Output::NONE);
+    match slot.source.checked_sub(1) {
+        None => unchanged(Output::NONE),
+        Some(peer) => put_out(reply.to(peer as usize), at, slot),
     }
-    let to = (slot.source - 1) as usize;
-    if accepting {
-        return put_out(What::AcceptReply { to: to }, at, slot);
-    }
-    put_out(What::PreAcceptReply { to: to }, at, slot)
 }
 
 // An AcceptReply from myself at the slot's ballot, done whatever it is answered.
@@ -50,24 +64,16 @@ fn own_reply(view: View, at: Place) -> Change
     requires seven { Seven view }
     requires held_value { view.held ≡ true }
     requires led_value { view.slot.led ≡ true }
-    ensures { RepliesWith true view at result }
+    ensures { RepliesWith Accept view at result }
 {
-    let config = view.config;
-    let slot = view.slot;
     let message = Message {
-        peer: config.own,
-        at: at,
-        ballot: slot.ballot,
+        peer: view.config.own,
+        at,
+        ballot: view.slot.ballot,
     };
-    let decided = reply(view, message);
-    let after = decided.slot;
-    let output = decided.output;
-    let extent = decided.extent;
     Change {
-        slot: after,
-        output: output,
         answer: Answer::Done,
-        extent: extent,
+        ..reply(view, message)
     }
 }
 
@@ -75,8 +81,7 @@ fn own_reply(view: View, at: Place) -> Change
 fn put_out(what: What, at: Place, slot: Slot) -> Change
     ensures { result ≡ putting_out (record_of what at slot ∷ []) }
 {
-    let record = Record::of(what, at, slot);
-    unchanged(Output::one(record))
+    unchanged(Output::one(Record::of(what, at, slot)))
 }
 
 // The table as it was.
@@ -85,7 +90,7 @@ fn unchanged(output: Output) -> Change
 {
     Change {
         slot: Slot::NULL,
-        output: output,
+        output,
         answer: Answer::Done,
         extent: Extent::Nothing,
     }

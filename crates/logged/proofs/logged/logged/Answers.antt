@@ -1,90 +1,58 @@
 -- `logged::logged::logged` meets its contract: refused, or by what was logged.
 use mathlib.Core.Path.{◌≡◌, sym, ◌∙◌}
-use mathlib.Core.Bool.{Bool, true, false}
-use mathlib.Core.List.{List}
-use Prim.Native.Nat.{ℕ, ◌≤◌}
+use mathlib.Core.Bool.{true}
 use native.Mathlib.Omega.{arith}
 use lib.ListN.{length}
 use borrow.Author.Rules.{rules}
-use Rattle.base.specs.declared.log_status.LogStatus.{LogStatus}
 use Rattle.deps.specs.Batches.{no_op}
-use Rattle.table.specs.declared.place.Place.{Place}
-use Rattle.table.specs.declared.table.Table.{Table}
-use Rattle.outcomes.specs.declared.outcome.Outcome.{Outcome}
-use Rattle.changes.specs.View.{view_of}
-use Rattle.changes.specs.Change.{Seven, changed}
-use Rattle.changes.specs.declared.view.View.{View}
-use Rattle.changes.specs.declared.change.Change.{Change}
-use Rattle.changes.proofs.ViewLaws.{lead_in, seven_seen, lead_seen, lead_inside}
+use Rattle.outcomes.proofs.RefusalLaws.{number_some}
+use Rattle.changes.specs.Change.{Seven}
+use Rattle.changes.proofs.ViewLaws.{seven_seen, lead_seen, lead_inside}
 use Rattle.logged.specs.Refusal.{logged_refusal}
-use Rattle.logged.specs.Logged.{none_run, reply_status, RepliesWith}
+use Rattle.logged.specs.declared.replies.Reply.TheVariants.{PreAccept, Accept}
 use Rattle.logged.proofs.RefusedLaws.{short_first, then_slot}
-use Rattle.logged.proofs.EntryLaws.{Meets, entry_refused, entry_replied, entry_committed, entry_fits, entry_row, entry_room}
+use Rattle.logged.proofs.EntryLaws.{entry_refused, entry_replied, entry_committed, entry_fits, entry_row, entry_room}
 use Rattle.logged.proofs.logged.logged.Goals as goal
-
-module _ (t : Table) (at : Place) (list : List ℕ) (v : View) (is : v ≡ view_of t at no_op) (long : 224 ≤ length list) where
-  -- the refusal that the view has is the event's, once the list is long enough
-  seen : lead_in v at ≡ logged_refusal t at (length list)
-  seen = lead_seen t at no_op v (sym is) ∙ sym (then_slot t at (length list) long)
-
-  module _ (number : ℕ) (n : number ≡ lead_in v at) (none : number ≤ 0) where
-    unrefused : lead_in v at ≡ 0
-    unrefused = sym n ∙ omega arith
-
-    passed : logged_refusal t at (length list) ≡ 0
-    passed = sym seen ∙ unrefused
-
-    -- what a decision asks of the view
-    seven : Seven v
-    seven = rw is (seven_seen t at no_op)
-
-    held : v.held ≡ true
-    held = (lead_inside v seven at unrefused).1
-
-    -- a change that a reply was decided to be, made of the table
-    replied_so : (status : LogStatus) (accepting : Bool) → length t.lens ≡ 7 → status ≡ reply_status accepting → (c : Change) (o : Outcome) → RepliesWith accepting v at c → o ≡ changed t at c → Meets t at status list (none_run o) list
-    replied_so status accepting lens told c o r e = entry_replied t at status list passed accepting told o (e ∙ r.same t lens (sym is))
+use Rattle.logged.proofs.logged.logged.Goals.{In_default}
 
 pub returns-then-order-lt224 : goal.returns-then-order-lt224
 returns-then-order-lt224 c =
     let a = c.args in
-    let m = entry_refused a.table a.at a.status a.order.now _ (sym (short_first a.table a.at (length a.order.now) c.if-order-lt224.true)) (omega arith) c.refused.result c.refused.ensures in
-    record { result = c.none_run.ensures ∙ m.0; list = m.1 }
+    let m = entry_refused a.table a.at a.status a.order.now _ (c.number.ensures ∙ sym (short_first a.table a.at _ c.if-order-lt224.true)) (omega arith) _ c.refused.ensures in
+    record { result = c.into.ensures ∙ m.0; list = m.1 }
 
-pub returns-then-number-gt0 : goal.returns-then-number-gt0
-returns-then-number-gt0 c =
+pub returns-in-Err : goal.returns-in-Err
+returns-in-Err c =
     let a = c.args in
-    let v = c.look_plain-view in
-    let r = c.refused-then-number-gt0 in
-    let m = entry_refused a.table a.at a.status a.order.now c.of_led-number.result (c.of_led-number.ensures ∙ seen a.table a.at a.order.now v.result v.ensures c.if-order-lt224.false) c.if-number-gt0.true r.result r.ensures in
-    record { result = c.none_run-then-number-gt0.ensures ∙ m.0; list = m.1 }
+    let seen = lead_seen a.table a.at no_op _ (sym c.look_plain-view.ensures) ∙ sym (then_slot a.table a.at (length a.order.now) c.if-order-lt224.false) in
+    let m = entry_refused a.table a.at a.status a.order.now _ (c.number-in-Err.ensures ∙ c.in-Err.ensures ∙ seen) (omega (arith, number_some c.in-Err.refusal)) _ c.refused-in-Err.ensures in
+    record { result = c.into-in-Err.ensures ∙ m.0; list = m.1 }
+
+-- ---- not refused
+
+module _ (c : In_default) where
+  passed : logged_refusal c.args.table c.args.at (length c.args.order.now) ≡ 0
+  passed = then_slot c.args.table c.args.at _ c.if-order-lt224.false ∙ sym (c.in_default.ensures ∙ lead_seen c.args.table c.args.at no_op _ (sym c.look_plain-view.ensures))
+
+  seven : Seven c.look_plain-view.result
+  seven = rw c.look_plain-view.ensures (seven_seen _ _ _)
+
+  held : c.look_plain-view.result.held ≡ true
+  held = (lead_inside c.look_plain-view.result seven c.args.at (sym c.in_default.ensures)).1
+
+  lens : length c.args.table.lens ≡ 7
+  lens = search rules
 
 pub replied-requires : goal.replied-requires
-replied-requires c =
-    let a = c.args in
-    let v = c.look_plain-view in
-    let n = c.of_led-number in
-    record {
-      seven = seven a.table a.at a.order.now v.result v.ensures c.if-order-lt224.false n.result n.ensures c.if-number-gt0.false;
-      held_value = held a.table a.at a.order.now v.result v.ensures c.if-order-lt224.false n.result n.ensures c.if-number-gt0.false;
-    }
+replied-requires c = let d = (goal.at.replied-requires c).In_default in record { seven = seven d; held_value = held d }
 
 pub replied-requires-in-Accepting : goal.replied-requires-in-Accepting
-replied-requires-in-Accepting c =
-    let a = c.args in
-    let v = c.look_plain-view in
-    let n = c.of_led-number in
-    record {
-      seven = seven a.table a.at a.order.now v.result v.ensures c.if-order-lt224.false n.result n.ensures c.if-number-gt0.false;
-      held_value = held a.table a.at a.order.now v.result v.ensures c.if-order-lt224.false n.result n.ensures c.if-number-gt0.false;
-    }
+replied-requires-in-Accepting c = let d = (goal.at.replied-requires-in-Accepting c).In_default in record { seven = seven d; held_value = held d }
 
 pub committed-ran-requires : goal.committed-ran-requires
 committed-ran-requires c =
     let a = c.args in
-    let v = c.look_plain-view in
-    let n = c.of_led-number in
-    let none = passed a.table a.at a.order.now v.result v.ensures c.if-order-lt224.false n.result n.ensures c.if-number-gt0.false in
+    let none = passed (goal.at.committed-ran-requires c).In_default in
     record {
       table_value = entry_fits a.table a.at a.status a.order.now none;
       row_bound = entry_row a.table a.at a.status a.order.now none;
@@ -94,24 +62,20 @@ committed-ran-requires c =
 pub returns-in-PreAccepting : goal.returns-in-PreAccepting
 returns-in-PreAccepting c =
     let a = c.args in
-    let v = c.look_plain-view in
-    let n = c.of_led-number in
-    let m = replied_so a.table a.at a.order.now v.result v.ensures c.if-order-lt224.false n.result n.ensures c.if-number-gt0.false a.status false (search rules) c.in-PreAccepting.is _ _ c.replied.ensures c.apply.ensures in
-    record { result = c.none_run-in-PreAccepting.ensures ∙ m.0; list = m.1 }
+    let d = (goal.at.returns-in-PreAccepting c).In_default in
+    let m = entry_replied a.table a.at a.status a.order.now (passed d) PreAccept c.in-PreAccepting.is _ (c.apply.ensures ∙ c.replied.ensures.same a.table (lens d) (sym c.look_plain-view.ensures)) in
+    record { result = c.into-in-PreAccepting.ensures ∙ m.0; list = m.1 }
 
 pub returns-in-Accepting : goal.returns-in-Accepting
 returns-in-Accepting c =
     let a = c.args in
-    let v = c.look_plain-view in
-    let n = c.of_led-number in
-    let m = replied_so a.table a.at a.order.now v.result v.ensures c.if-order-lt224.false n.result n.ensures c.if-number-gt0.false a.status true (search rules) c.in-Accepting.is _ _ c.replied-in-Accepting.ensures c.apply-in-Accepting.ensures in
-    record { result = c.none_run-in-Accepting.ensures ∙ m.0; list = m.1 }
+    let d = (goal.at.returns-in-Accepting c).In_default in
+    let m = entry_replied a.table a.at a.status a.order.now (passed d) Accept c.in-Accepting.is _ (c.apply-in-Accepting.ensures ∙ c.replied-in-Accepting.ensures.same a.table (lens d) (sym c.look_plain-view.ensures)) in
+    record { result = c.into-in-Accepting.ensures ∙ m.0; list = m.1 }
 
 pub returns-in-Committed : goal.returns-in-Committed
 returns-in-Committed c =
     let a = c.args in
-    let v = c.look_plain-view in
-    let n = c.of_led-number in
-    let none = passed a.table a.at a.order.now v.result v.ensures c.if-order-lt224.false n.result n.ensures c.if-number-gt0.false in
-    let m = entry_committed a.table a.at a.status a.order.now none c.in-Committed.is c.committed-ran.result c.done-outcome.result _ c.committed-ran.ensures.result c.done-outcome.ensures c.committed-ran.ensures.list in
+    let none = passed (goal.at.returns-in-Committed c).In_default in
+    let m = entry_committed a.table a.at a.status a.order.now none c.in-Committed.is c.committed-ran.result c.done.result _ c.committed-ran.ensures.result c.done.ensures c.committed-ran.ensures.list in
     record { result = m.0; list = m.1 }
