@@ -1,5 +1,4 @@
 mod Writing
-mod LeftLaws
 pub mod DecimalLaws
 pub mod BarLaws
 pub mod RoomLaws

@@ -4,8 +4,7 @@ use mathlib.Core.List.{List, [], ◌∷◌, flat_map}
 use mathlib.Core.Bool.{true}
 use Prim.Native.Nat.{ℕ, suc, ◌+◌, ◌*◌, ◌<◌, ◌≤◌, ◌/◌, ◌%◌}
 use native.Mathlib.Omega.{arith}
-use lib.ListN.{length, get_or, take, length-append, length-take}
-use lib.Seq.{get_or-take}
+use lib.ListN.{length, get_or, length-append}
 use Rattle.base.specs.Below.{list_below}
 use Rattle.base.specs.declared.answer.Answer.{Answer}
 use Rattle.base.specs.declared.answer.Answer.TheVariants.{Done, Ignored, NotYet, Already, Refused}
@@ -56,12 +55,6 @@ line_room number answer ran b =
     let a = answer_room answer in
     let s = each_room slot_text 5 ran (λ i l. slot_room (get_or ran i 0) (b i l)) in
     simp length-append (omega arith)
-
--- the first of a list of bytes are bytes
-pub front_bytes : (n : ℕ) (l : List ℕ) → ((i : ℕ) → get_or l i 0 < 256) → (i : ℕ) → i < length (take n l) → get_or (take n l) i 0 < 256
-front_bytes n l b i h =
-    let k : i < n = omega (arith, length-take n l) in
-    rw (get_or-take n l i 0 k) (b i)
 
 -- ---- the line of the bars
 

@@ -1,61 +1,71 @@
--- A text written piece by piece: what is left of it, laid over what is written so far, is the whole of it laid.
-use mathlib.Core.Path.{◌≡◌, refl, ap, sym, ◌∙◌}
-use mathlib.Core.List.{List, [], ◌∷◌, ◌++◌, flat_map}
-use Prim.Native.Nat.{ℕ, ◌+◌, ◌<◌, ◌≤◌}
+-- A text that is written piece by piece: room for what is left, and two pieces are one.
+use mathlib.Core.Path.{◌≡◌, refl, ap, ◌∙◌}
+use mathlib.Core.List.{List, [], ◌∷◌, ◌++◌, flat_map, append-nil, append_assoc}
+use Prim.Native.Nat.{ℕ, zero, suc, ◌+◌, ◌<◌, ◌≤◌}
 use native.Mathlib.Numerals.{add-one}
 use native.Mathlib.Omega.{arith}
-use lib.ListN.{length, get_or, drop, length-append, drop_of_length-le}
-use lib.Seq.{sets, length-sets, drop-cons}
+use Rattle.std.proofs.lemmas.List.{take_all}
+use lib.ListN.{length, get_or, take, length-append}
+use lib.Seq.{length-sets}
 use Rattle.base.proofs.Lists.{sets_append}
+use Rattle.lines.specs.Text.{HasRoom, Wrote}
+use Rattle.lines.specs.declared.text.Text.{Text}
 
--- of the whole, which goes over old from a place on, what is left goes over new from next on
-pub record Left (old : List ℕ) (at : ℕ) (whole new : List ℕ) (next : ℕ) (left : List ℕ) : Type 0 where
-  pub same : sets new next left ≡ sets old at whole
-  pub place : next + length left ≡ at + length whole
+-- nothing written
+pub begun : (t : Text) → Wrote t t []
+begun t = record { same_reference = refl; at = omega arith; bytes = refl }
 
-pub begin : (old : List ℕ) (at : ℕ) (whole : List ℕ) → Left old at whole old at whole
-begin old at whole = record { same = refl; place = refl }
+-- room for a piece and what follows it is room for the piece
+pub first_fits : (t : Text) (piece left : List ℕ) → HasRoom t (piece ++ left) → HasRoom t piece
+first_fits t piece left h = omega (arith, length-append piece left)
 
-module _ {old : List ℕ} {at : ℕ} {whole mid : List ℕ} {place : ℕ} {before : List ℕ} where
-  -- as long as it was
-  pub as_long : Left old at whole mid place before → length mid ≡ length old
-  as_long w = sym (length-sets mid place before) ∙ ap length w.same ∙ length-sets old at whole
+module _ {old mid : Text} {piece : List ℕ} (w : Wrote old mid piece) where
+  -- and once it is written, for what follows
+  pub left_fits : (left : List ℕ) → HasRoom old (piece ++ left) → HasRoom mid left
+  left_fits left h = omega (arith, w.at, ap length w.bytes, length-sets old.bytes.now old.at piece, length-append piece left)
 
-  -- a piece of what is left: there is room for it, and once it is written the rest is left
-  pub room : (piece left : List ℕ) → Left old at whole mid place before → before ≡ piece ++ left → at + length whole ≤ length old → place + length piece ≤ length mid
-  room piece left w e h = omega (arith, as_long w, w.place, ap length e, length-append piece left)
-
-  pub more : {left new : List ℕ} {next : ℕ} (piece : List ℕ) → Left old at whole mid place before → before ≡ piece ++ left → new ≡ sets mid place piece → next ≡ place + length piece
-      → Left old at whole new next left
-  more {left} piece w e f g =
+  pub then : {new : Text} {next : List ℕ} → Wrote mid new next → Wrote old new (piece ++ next)
+  then {new} {next} v =
       record {
-        same = rw (f, g) (sets_append mid place piece left ∙ ap (sets mid place) (sym e) ∙ w.same);
-        place = omega (arith, w.place, ap length e, length-append piece left);
+        same_reference = v.same_reference ∙ w.same_reference;
+        at = omega (arith, v.at, w.at, length-append piece next);
+        bytes = v.bytes ∙ rw (w.bytes, w.at) (sets_append old.bytes.now old.at piece next);
       }
 
-  -- the last piece
-  pub last_room : Left old at whole mid place before → at + length whole ≤ length old → place + length before ≤ length mid
-  last_room w h = omega (arith, as_long w, w.place)
+-- ---- what the elements of a list give, one after the other
 
-  pub last : {new : List ℕ} {next : ℕ} → Left old at whole mid place before → new ≡ sets mid place before → next ≡ place + length before → (next ≡ at + length whole) × (new ≡ sets old at whole)
-  last w f g = (g ∙ w.place, f ∙ w.same)
-
-  -- nothing left
-  pub ended : Left old at whole mid place before → before ≡ [] → (place ≡ at + length whole) × (mid ≡ sets old at whole)
-  ended w e = last w (ap (sets mid place) (sym e)) (omega (arith, ap length e))
-
--- ---- what is left of a list, and of what its elements give: the next first
-
-pub next_left : (l : List ℕ) (i : ℕ) → i < length l → drop i l ≡ (get_or l i 0 ∷ []) ++ drop (i + 1) l
-next_left l i h = rw (add-one, drop-cons l i 0 h)
-
-pub each_left : (f : ℕ → List ℕ) (l : List ℕ) (i : ℕ) → i < length l → flat_map f (drop i l) ≡ f (get_or l i 0) ++ flat_map f (drop (i + 1) l)
+-- one more
+up_to : (f : ℕ → List ℕ) (l : List ℕ) (i : ℕ) → i < length l → flat_map f (take (suc i) l) ≡ flat_map f (take i l) ++ f (get_or l i 0)
 unfolding flat_map
-each_left f l i h = rw (add-one, drop-cons l i 0 h)
+up_to f [] i h = absurd (omega arith)
+up_to f (x ∷ l) zero h = append-nil (f x)
+up_to f (x ∷ l) (suc i) h = rw (up_to f l i (omega arith), append_assoc) refl
 
-pub none_left : (l : List ℕ) (i : ℕ) → length l ≤ i → drop i l ≡ []
-none_left l i h = drop_of_length-le l {i = i} h
-
-pub none_given : (f : ℕ → List ℕ) (l : List ℕ) (i : ℕ) → length l ≤ i → flat_map f (drop i l) ≡ []
+-- no more than all
+part : (f : ℕ → List ℕ) (l : List ℕ) (i : ℕ) → length (flat_map f (take i l)) ≤ length (flat_map f l)
 unfolding flat_map
-none_given f l i h = rw (none_left l i h)
+part f [] zero = omega arith
+part f [] (suc i) = omega arith
+part f (x ∷ l) zero = omega arith
+part f (x ∷ l) (suc i) = omega (arith, length-append (f x) (flat_map f (take i l)), length-append (f x) (flat_map f l), part f l i)
+
+module _ (f : ℕ → List ℕ) (l : List ℕ) {old mid : Text} (i : ℕ) (w : Wrote old mid (flat_map f (take i l))) where
+  -- there is room for what the next gives
+  pub each_fits : i < length l → HasRoom old (flat_map f l) → HasRoom mid (f (get_or l i 0))
+  each_fits h r =
+      let more = ap length (up_to f l i h) in
+      omega (
+        arith,
+        more,
+        length-append (flat_map f (take i l)) (f (get_or l i 0)),
+        part f l (suc i),
+        w.at,
+        ap length w.bytes,
+        length-sets old.bytes.now old.at (flat_map f (take i l)),
+      )
+
+  pub each_more : i < length l → {new : Text} → Wrote mid new (f (get_or l i 0)) → Wrote old new (flat_map f (take (i + 1) l))
+  each_more h v = rw (add-one, up_to f l i h) (then w v)
+
+  pub each_done : length l ≤ i → Wrote old mid (flat_map f l)
+  each_done h = rw (take_all i l h) at w

@@ -1,44 +1,24 @@
-// Words, and what a call answers.
-ghost use Rattle.std.specs.Prelude.{◌≡◌, ◌++◌, ◌+◌, ◌≤◌, length};
-ghost use Rattle.std.proofs.lemmas.List.Edits.{sets};
-ghost use Rattle.lines.specs.Words.{refused_text, answer_text};
-ghost use Rattle.lines.specs.Decimal.{digits_of};
+// What a call answers, in words.
+ghost use Rattle.lines.specs.Text.{HasRoom, Wrote};
+ghost use Rattle.lines.specs.Words.{answer_text};
 
-use super::decimal::put_number;
+use super::text::Text;
 use base::answer::Answer;
 
-pub(crate) fn put_word(text: &mut [u8], at: usize, word: &[u8]) -> usize
-    requires { at + length word.now ≤ length text.old }
-    ensures value { result ≡ at + length word.now }
-    ensures text_after { text.new ≡ sets text.old at word.now }
-{
-    let mut i: usize = 0;
-    while i < word.len() {
-        text[at + i] = word[i];
-        i += 1;
+impl Text<'_> {
+    pub(crate) fn put_answer(&mut self, answer: Answer)
+        requires { HasRoom self.old (answer_text answer) }
+        ensures { Wrote self.old self.new (answer_text answer) }
+    {
+        match answer {
+            Answer::Done => self.put_word(b"done"),
+            Answer::Ignored => self.put_word(b"ignored"),
+            Answer::NotYet => self.put_word(b"notyet"),
+            Answer::Already => self.put_word(b"already"),
+            Answer::Refused { number } => {
+                self.put_word(b"refused ");
+                self.put_number(number);
+            }
+        }
     }
-    at + i
-}
-
-pub(crate) fn put_answer(text: &mut [u8], at: usize, answer: Answer) -> usize
-    requires { at + length (answer_text answer) ≤ length text.old }
-    ensures value { result ≡ at + length (answer_text answer) }
-    ensures text_after { text.new ≡ sets text.old at (answer_text answer) }
-{
-    match answer {
-        Answer::Done => put_word(text, at, b"done"),
-        Answer::Ignored => put_word(text, at, b"ignored"),
-        Answer::NotYet => put_word(text, at, b"notyet"),
-        Answer::Already => put_word(text, at, b"already"),
-        Answer::Refused { number } => put_refused(text, at, number),
-    }
-}
-
-fn put_refused(text: &mut [u8], at: usize, number: u64) -> usize
-    requires { at + length (refused_text ++ digits_of number) ≤ length text.old }
-    ensures value { result ≡ at + length (refused_text ++ digits_of number) }
-    ensures text_after { text.new ≡ sets text.old at (refused_text ++ digits_of number) }
-{
-    let next = put_word(text, at, b"refused ");
-    put_number(text, next, number)
 }

@@ -1,4 +1,4 @@
-use Rattle.lines.proofs.decimal.+put_number.Given as goal
+use Rattle.lines.proofs.text.Text.+put_number.Given as goal
 
 abbrev pub decreases-put_number : goal.decreases-put_number
 decreases-put_number l = l.number
