@@ -2,10 +2,10 @@
 use mathlib.Core.Path.{◌≡◌, refl, ap, ◌∙◌}
 use mathlib.Core.List.{List}
 use mathlib.Core.Bool.{true, false}
-use Prim.Native.Nat.{ℕ, ◌+◌, ◌-◌, ◌<◌, ◌≤◌}
+use Prim.Native.Nat.{ℕ, ◌-◌, ◌<◌, ◌≤◌}
 use native.Mathlib.Omega.{arith}
 use borrow.Author.Tests.{le-leb, lt-leb, eq-eqb, ne_eqb}
-use lib.ListN.{length, length-append}
+use lib.ListN.{length}
 use lib.Seq.{sets}
 use Rattle.base.specs.Refusals.{outside_bounds, too_long}
 use Rattle.base.specs.Config.{config_fits}
@@ -58,14 +58,6 @@ module _ (s : List ℕ) (config : Config) (at : ℕ) where
     pub events_list : (list : List ℕ) → sets (sets list 0 (left_text s (begun_at s config at))) run.end (bars_text run.table) ≡ sets list 0 (text_of (opened_trace s config at))
     events_list list =
         rw (w.end, sets_append list 0 (left_text s (begun_at s config at)) (bars_text run.table), bars_are, text_is)
-
-    pub events_ran : (end : ℕ) → end ≡ run.end + length (bars_text run.table) → ran 100 run.table end ≡ ran_by (opened_trace s config at)
-    events_ran end e =
-        let p = played_from (length s) s (empty_table config) at in
-        let f : end ≡ length (text_of (opened_trace s config at))
-        = omega (arith, e, w.end, ap length text_is, ap length bars_are, length-append (said_text 1 p.said) (bars_text p.table)) in
-        let g : run.table ≡ p.table = w.table ∙ ap (λ (q : Played). q.table) all_left in
-        rw (f, g)
 
 -- ---- what a trace is
 

@@ -9,7 +9,7 @@ ghost use Rattle.trace.specs.Run.{text_room, no_table, ran_by, run_of, run_text}
 use super::turn::{Run, turn};
 use base::answer::Answer;
 use base::config::Config;
-use base::refusals;
+use base::refusals::Refusal;
 use lines::bars::put_bars;
 use lines::line::put_line;
 use reader::places::rest_from;
@@ -50,7 +50,7 @@ pub fn run(trace: &[u8], text: &mut [u8]) -> Ran
         };
     }
     if LIMIT < trace.len() {
-        return refuse(refusals::TOO_LONG, text);
+        return refuse(Refusal::TooLong.number(), text);
     }
     let head = header(trace);
     let cursor = head.cursor;
@@ -59,7 +59,7 @@ pub fn run(trace: &[u8], text: &mut [u8]) -> Ran
     }
     let config = head.config;
     if !config.fits() {
-        return refuse(refusals::OUTSIDE_BOUNDS, text);
+        return refuse(Refusal::OutsideBounds.number(), text);
     }
     events(trace, config, cursor.at, text)
 }
@@ -72,21 +72,19 @@ fn events(trace: &[u8], config: Config, at: usize, text: &mut [u8]) -> Ran
     ensures result { result ≡ ran_by (opened_trace trace.now config at) }
     ensures list { text.new ≡ sets text.old 0 (text_of (opened_trace trace.now config at)) }
 {
-    let table = Table::empty(config);
     let begun = Run {
-        table: table,
-        at: at,
+        table: Table::empty(config),
+        at,
         rest: rest_from(trace, at),
         events: 0,
         end: 0,
     };
     let ended = turns(trace, begun, text);
-    let after = ended.table;
-    let end = put_bars(text, ended.end, after);
+    let end = put_bars(text, ended.end, ended.table);
     Ran {
         number: DONE,
-        table: after,
-        end: end,
+        table: ended.table,
+        end,
     }
 }
 
@@ -110,13 +108,11 @@ fn refuse(number: u64, text: &mut [u8]) -> Ran
     ensures result { result ≡ ran_by (refused number) }
     ensures list { text.new ≡ sets text.old 0 (text_of (refused number)) }
 {
-    let answer = Answer::Refused { number: number };
-    let none = [0u8; 1];
-    let end = put_line(text, 0, 0, answer, &none, 0);
+    let end = put_line(text, 0, 0, Answer::Refused { number }, &[]);
     Ran {
-        number: number,
+        number,
         table: no_table(),
-        end: end,
+        end,
     }
 }
 

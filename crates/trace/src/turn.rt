@@ -29,26 +29,22 @@ pub(crate) fn turn(trace: &[u8], run: Run, text: &mut [u8]) -> Run
     ensures result { result ≡ turn_of trace.now run }
     ensures list { text.new ≡ sets text.old run.end (turn_text trace.now run) }
 {
-    let table = run.table;
-    let config = table.config;
-    let next = next_at(trace, run.at, config.n);
+    let next = next_at(trace, run.at, run.table.config.n);
     if 0 < next.refusal {
         return stop(run, next.at, next.refusal, text);
     }
     let mut order = [0u8; 224];
-    let asked = next.event;
-    let did = step(table, asked, &mut order);
+    let did = step(run.table, next.event, &mut order);
     let outcome = did.outcome;
-    let answer = outcome.answer;
-    let after = outcome.table;
-    let number = run.events + 1;
-    let end = put_line(text, run.end, number as u64, answer, &order, did.ran);
+    let events = run.events + 1;
+    let ran = &order[..did.ran];
+    let end = put_line(text, run.end, events as u64, outcome.answer, ran);
     Run {
-        table: after,
+        table: outcome.table,
         at: next.at,
         rest: next.rest,
-        events: number,
-        end: end,
+        events,
+        end,
     }
 }
 
@@ -59,16 +55,14 @@ fn stop(run: Run, at: usize, refusal: u64, text: &mut [u8]) -> Run
     ensures result { result ≡ stopped_run at run refusal }
     ensures list { text.new ≡ sets text.old run.end (refusal_text run refusal) }
 {
-    let table = run.table;
-    let number = run.events + 1;
+    let events = run.events + 1;
     let answer = Answer::Refused { number: refusal };
-    let none = [0u8; 1];
-    let end = put_line(text, run.end, number as u64, answer, &none, 0);
+    let end = put_line(text, run.end, events as u64, answer, &[]);
     Run {
-        table: table,
-        at: at,
+        at,
         rest: 0,
-        events: number,
-        end: end,
+        events,
+        end,
+        ..run
     }
 }

@@ -9,7 +9,7 @@ use Rattle.trace.proofs.run.events.Goals as goal
 pub turns-ended-requires-clause-going : goal.turns-ended-requires-clause-going
 turns-ended-requires-clause-going c =
     let a = c.args in
-    rw (c.empty-table.ensures, c.rest_from.ensures)
+    rw (c.empty.ensures, c.rest_from.ensures)
     (can_begin a.trace.now a.config a.at (length a.text.now) c.requires.config_value c.requires.trace_len_bound c.requires.text_room_in_bounds)
 
 pub put_bars-end-requires-clause-table_in_bounds : goal.put_bars-end-requires-clause-table_in_bounds
@@ -25,6 +25,6 @@ returns-clause-list c =
     let s = a.trace.now in
     let p = c.put_bars-end in
     let r = c.turns-ended in
-    let w = rw (c.empty-table.ensures, c.rest_from.ensures) at r.ensures.ended in
-    let list = rw c.empty-table.ensures at r.ensures.list in
+    let w = rw (c.empty.ensures, c.rest_from.ensures) at r.ensures.ended in
+    let list = rw c.empty.ensures at r.ensures.list in
     p.ensures.text_after ∙ rw list (events_list s a.config a.at (length a.text.now) r.result w a.text.now)

@@ -11,8 +11,8 @@ returns-then-text-lt-ROOM c =
 pub returns-then-trace-gt-LIMIT : goal.returns-then-trace-gt-LIMIT
 returns-then-trace-gt-LIMIT c =
     let s = c.args.trace.now in
-    let x = c.refuse in
-    let is = run_is s c.args.text.now (omega arith) _ (trace_long s (omega arith)) x.result _ x.ensures.result x.ensures.list in
+    let x = rw c.number.ensures at c.refuse.ensures in
+    let is = run_is s c.args.text.now (omega arith) _ (trace_long s (omega arith)) c.refuse.result _ x.result x.list in
     record { result = is.0; list = is.1 }
 
 pub returns-then-cursor-gt0 : goal.returns-then-cursor-gt0
@@ -28,9 +28,9 @@ pub returns-then-not-fits : goal.returns-then-not-fits
 returns-then-not-fits c =
     let s = c.args.trace.now in
     let h = c.header-head in
-    let x = c.refuse-then-not-fits in
+    let x = rw c.number-then-not-fits.ensures at c.refuse-then-not-fits.ensures in
     let is =
-    run_is s c.args.text.now (omega arith) _ (trace_outside s (omega arith) h.result h.ensures (omega arith) (failed c.fits.ensures c.if-not-fits.true)) x.result _ x.ensures.result x.ensures.list in
+    run_is s c.args.text.now (omega arith) _ (trace_outside s (omega arith) h.result h.ensures (omega arith) (failed c.fits.ensures c.if-not-fits.true)) c.refuse-then-not-fits.result _ x.result x.list in
     record { result = is.0; list = is.1 }
 
 pub returns : goal.returns

@@ -1,6 +1,6 @@
 use mathlib.Core.Path.{◌≡◌, ap}
 use native.Mathlib.Omega.{arith}
-use lib.ListN.{length}
+use lib.ListN.{length, length-take}
 use Rattle.bounds.proofs.BoundLaws.{table_fits_each}
 use Rattle.trace.proofs.GoingLaws.{turn_room}
 use Rattle.trace.proofs.EventLaws.{turn_stopped, text_stopped, ran_fits, text_went, turn_went}
@@ -20,18 +20,25 @@ returns-then-next-gt0 c =
       list = rw (text_stopped a.trace.now a.run r.result r.ensures h) at x.ensures.list;
     }
 
-pub put_line-end-requires-clause-order_in_bounds : goal.put_line-end-requires-clause-order_in_bounds
-put_line-end-requires-clause-order_in_bounds c =
+pub slice_bounds-order-end : goal.slice_bounds-order-end
+slice_bounds-order-end c =
+    let d = c.step-did in
+    ran_fits c.args.trace.now c.args.run c.next_at-next.result c.next_at-next.ensures d.result d.new.order d.ensures.result d.ensures.list
+
+pub slice_bounds-ran-end : goal.slice_bounds-ran-end
+slice_bounds-ran-end c =
+    let d = c.step-did in
+    let fits =
+    ran_fits c.args.trace.now c.args.run c.next_at-next.result c.next_at-next.ensures d.result d.new.order d.ensures.result d.ensures.list in
+    omega (arith, fits, length-take d.result.ran d.new.order)
+
+pub put_line-end-requires : goal.put_line-end-requires
+put_line-end-requires c =
     let a = c.args in
     let r = c.next_at-next in
     let d = c.step-did in
     let t = text_went a.trace.now a.run r.result r.ensures d.result d.new.order d.ensures.result d.ensures.list (omega arith) in
     omega (arith, ap length t, turn_room a.trace.now a.run, c.requires.end_in_bounds)
-
-pub put_line-end-requires-clause-ran_in_bounds : goal.put_line-end-requires-clause-ran_in_bounds
-put_line-end-requires-clause-ran_in_bounds c =
-    let d = c.step-did in
-    ran_fits c.args.trace.now c.args.run c.next_at-next.result c.next_at-next.ensures d.result d.new.order d.ensures.result d.ensures.list
 
 pub returns : goal.returns
 returns c =
