@@ -121,9 +121,6 @@ pub record PassedTo (deps : List ℕ) (i q : ℕ) (F G : List ℕ) : Type 0 wher
   pub grown : Grown deps (i / 32) (suc (i % 32)) F G
   pub done : (x : ℕ) → x < q → get_or deps (7 * i + x) 0 ≤ get_or G x 0
 
-pub to_none : (deps : List ℕ) (i : ℕ) (F : List ℕ) → PassedTo deps i 0 F F
-to_none deps i F = record { grown = same deps (i / 32) (suc (i % 32)) F; done = λ x lt. absurd (omega arith) }
-
 module _ (deps : List ℕ) (i q : ℕ) (F G T : List ℕ) (q<7 : q < 7) (p : PassedTo deps i q F G) (v : Visited deps q (get_or deps (7 * i + q) 0) G T) where
   more_least : (C : List ℕ) → Shut deps C → Within F C → suc (i % 32) ≤ get_or C (i / 32) 0 → Within T C
   unfolding Shut ShutAt

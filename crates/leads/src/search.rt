@@ -50,12 +50,10 @@ fn rows(deps: &[u8; 1568], seen: &mut [u8; 7], i: usize)
     requires i_bound { i < 224 }
     ensures { Passed deps.now i seen.old seen.new }
 {
-    let mut row: usize = 0;
-    while row < 7 {
+    for row in 0..7 {
         let named = deps[7 * i + row];
         if seen[row] < named {
             visit(deps, seen, row, named);
         }
-        row += 1;
     }
 }

@@ -2,48 +2,37 @@
 use mathlib.Core.Path.{◌≡◌, refl, sym, ap, subst}
 use mathlib.Core.Bool.{Bool, true, false}
 use mathlib.Core.List.{List}
-use Prim.Native.Nat.{ℕ, ◌+◌, ◌*◌, ◌/◌, ◌%◌, ◌≤◌, ◌<◌, max}
+use Prim.Native.Nat.{ℕ, ◌+◌, ◌*◌, ◌/◌, ◌%◌, ◌≤◌, ◌<◌}
 use native.Mathlib.Decide.{ℕ_discrete}
 use native.Mathlib.Omega.{arith}
-use lib.Dec.{ltb}
-use lib.ListN.{get_or, set, length}
-use lib.Seq.{get_or-set_same, get_or-set_other}
-use borrow.Author.Count.{below_more}
-use borrow.Author.Tests.{ltb-true, ltb-false}
+use lib.ListN.{get_or}
+use Rattle.std.specs.Prelude.{Option, None, Some, MatchOption}
+use Rattle.base.specs.Marks.{marked}
 use Rattle.leads.specs.Depends.{Valid, Leads, here}
 use Rattle.leads.specs.Frontier.{In, frontier}
-use Rattle.leads.specs.Search.{Start}
 use Rattle.leads.proofs.PathLaws.{leads_trans, down_to}
 use Rattle.leads.proofs.FrontierLaws.{frontier_low, frontier_sound, frontier_whole}
-use Rattle.leads.proofs.LeastLaws.{start_at, start_later}
+use Rattle.leads.proofs.LeastLaws.{start_at}
 use Rattle.order.specs.Listed.{On}
 use Rattle.order.specs.Rule.{Ready, Lowest}
-use Rattle.order.specs.Heads.{blank_head, col_of, reach_of, FirstFrom, HeadAt, HeadsFrom, Held, Under, ReadyRow, NextRow, Decides, left}
+use Rattle.order.specs.Heads.{col_of, reach_of, FirstFrom, HeadAt, HeadsFrom, Held, Under, ReadyRow, NextRow, left}
 use Rattle.order.specs.declared.heads.Head.{Head}
-use Rattle.order.proofs.ListLaws.{clash}
 use Rattle.order.proofs.ReadyLaws.{some_ready}
 use Rattle.order.proofs.RuleLaws.{ready_led}
 use Rattle.order.proofs.LeftLaws.{left_length, on_left, left_slot, left_on}
 
 -- ---- found and moved on
 
--- what holds from c up to d, and at d, holds up to d + 1
-pub up_more : {P : ℕ → Type 0} (c d : ℕ) → ((x : ℕ) → c ≤ x → x < d → P x) → P d → (x : ℕ) → c ≤ x → x < d + 1 → P x
-up_more {P} c d f p x le lt = below_more (λ y. c ≤ y → P y) d (λ y small ge. f y ge small) (λ _. p) x lt le
+-- the first column at which the row is marked, as the search over its columns finds it
+pub found_first : (todo : List Bool) (row c : ℕ) (r : Option ℕ) → c ≤ 32
+    → MatchOption r ((k : ℕ) → c ≤ k → k < 32 → marked todo (32 * row + k) ≡ false) (λ i. (c ≤ i) × (i < 32) × (marked todo (32 * row + i) ≡ true) × ((k : ℕ) → c ≤ k → k < i → marked todo (32 * row + k) ≡ false))
+    → MatchOption r (FirstFrom todo row c 32) (λ col. (col < 32) × FirstFrom todo row c col)
+found_first todo row c None le none = record { small = omega arith; after = le; on = λ lt. absurd (omega arith); none = none }
+found_first todo row c (Some i) le (after, small, on, none) = (small, record { small = omega arith; after = after; on = λ _. on; none = none })
 
 module _ (deps : List ℕ) (todo : List Bool) (v : Valid deps) (row c col : ℕ) (F : List ℕ) where
   pub moved_on : row < 7 → col < 32 → FirstFrom todo row c col → F ≡ frontier deps (32 * row + col) → HeadAt deps todo row c col F
   moved_on hr hc f is = record { first = f; exact = λ _. is; start = start_at deps v row col F hr hc is }
-
-  pub moved_off : 32 ≤ col → FirstFrom todo row c col → Start deps row c F → HeadAt deps todo row c col F
-  moved_off big f s = record { first = f; exact = λ h. absurd (omega arith); start = start_later deps v row c col F f.after s }
-
-module _ (deps : List ℕ) (todo : List Bool) (row a b col : ℕ) (F : List ℕ) where
-  pub past_moved : a < b → HeadAt deps todo row b col F → HeadAt deps todo row (max a b) col F
-  past_moved lt h = let e : max a b ≡ b = omega arith in rw e h
-
-  pub past_same : b ≤ a → HeadAt deps todo row a col F → HeadAt deps todo row (max a b) col F
-  past_same le h = let e : max a b ≡ a = omega arith in rw e h
 
 pub settled : (deps : List ℕ) (todo : List Bool) (c : ℕ → ℕ) (heads : List Head) → HeadsFrom deps todo c heads → Held deps todo heads
 settled deps todo c heads h = record {
@@ -55,39 +44,6 @@ settled deps todo c heads h = record {
         start = p.start;
       };
 }
-
--- the heads of the rows below n are found
-abbrev pub HeadsTo : List ℕ → List Bool → (ℕ → ℕ) → List Head → ℕ → Type 0
-HeadsTo deps todo c heads n = (row : ℕ) → row < n → HeadAt deps todo row (c row) (col_of heads row) (reach_of heads row)
-
-module _ (deps : List ℕ) (todo : List Bool) (c : ℕ → ℕ) (heads : List Head) where
-  pub heads_more : (row : ℕ) (h : Head) → row < length heads → HeadsTo deps todo c heads row → HeadAt deps todo row (c row) h.col h.reach.cols → HeadsTo deps todo c (set heads row h) (row + 1)
-  heads_more row h small f p = below_more (λ y. HeadAt deps todo y (c y) (col_of (set heads row h) y) (reach_of (set heads row h) y)) row
-      (λ x lt. subst (λ (y : Head). HeadAt deps todo x (c x) y.col y.reach.cols) (sym (get_or-set_other heads row x h blank_head (λ e. absurd (omega arith)))) (f x lt))
-      (subst (λ (y : Head). HeadAt deps todo row (c row) y.col y.reach.cols) (sym (get_or-set_same heads row h blank_head small)) p)
-
-  pub heads_all : (n : ℕ) → 7 ≤ n → HeadsTo deps todo c heads n → HeadsFrom deps todo c heads
-  heads_all n full f = record { each = λ row lt. f row (omega arith) }
-
--- ---- tests
-
-pub decides_lt : (g a h b : ℕ) → g < a → Decides (g < a → h < b) (ltb h b)
-decides_lt g a h b lt = record {
-  yes = λ e _. ltb-true h b e;
-  no = λ e f. absurd (omega (arith, ltb-false h b e, f lt));
-}
-
-pub decides_off : (g a h b : ℕ) → a ≤ g → Decides (g < a → h < b) true
-decides_off g a h b le = record {
-  yes = λ e lt. absurd (omega arith);
-  no = λ e. clash true refl e;
-}
-
-pub decides_no : {P : Type 0} → (P → ⊥) → Decides P false
-decides_no n = record { yes = λ e. clash false e refl; no = λ e. n }
-
-pub decides_yes : {P : Type 0} → P → Decides P true
-decides_yes p = record { yes = λ e. p; no = λ e. clash true refl e }
 
 -- ---- what the heads decide
 
@@ -175,8 +131,8 @@ module _ {deps : List ℕ} {todo : List Bool} (v : Valid deps) {heads : List Hea
   )
 
   -- where no head is ready, nothing is left
-  pub none_left : (row : ℕ) → 7 ≤ row → NextRow heads row → (j : ℕ) → On (left todo heads) j → ⊥
-  none_left row big n j on =
+  pub none_left : NextRow heads 7 → (j : ℕ) → On (left todo heads) j → ⊥
+  none_left n j on =
       let w = some_ready deps (left todo heads) v (omega (arith, left_length todo heads)) j on in
       let x = ready_head w.0 w.1 in
       n.none (w.0 / 32) (omega (arith, x.0)) x.1

@@ -1,4 +1,5 @@
 pub mod ListLaws
+mod MadeLaws
 mod ReadyLaws
 mod RuleLaws
 mod BlockLaws

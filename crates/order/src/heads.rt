@@ -1,11 +1,12 @@
 // The heads of the rows: each row's first slot that is to be written, found and moved on.
-ghost use Rattle.std.specs.Prelude.{◌≤◌, ◌<◌, max};
+ghost use Rattle.std.specs.Prelude.{◌≤◌, ◌<◌, max, MatchOption};
 ghost use Rattle.leads.specs.Depends.{Valid};
 ghost use Rattle.leads.specs.Search.{Start};
 ghost use Rattle.order.specs.Heads.{Low, FirstFrom, HeadAt, HeadsFrom, Held, past};
 
 use deps::sets::DepSet;
 use leads::search;
+use std::array;
 
 // A row's first slot that is to be written: its column, 32 for none, and what it leads to.
 #[derive(Clone, Copy)]
@@ -24,17 +25,22 @@ pub(crate) fn begin(deps: &[u8; 1568], todo: &[bool; 224]) -> Heads
     requires { Valid deps.now }
     ensures { HeadsFrom deps.now todo.now (λ row. 0) result.rows }
 {
+    Heads {
+        rows: array::from_fn(|row| first_head(deps, todo, row)),
+    }
+}
+
+// A row's head where nothing is written yet.
+fn first_head(deps: &[u8; 1568], todo: &[bool; 224], row: usize) -> Head
+    requires valid { Valid deps.now }
+    requires row_bound { row < 7 }
+    ensures { HeadAt deps.now todo.now row 0 result.col result.reach.cols }
+{
     let none = Head {
         col: 0,
         reach: DepSet::EMPTY,
     };
-    let mut heads = Heads { rows: [none; 7] };
-    let mut row: usize = 0;
-    while row < 7 {
-        heads.rows[row] = moved(deps, todo, none, row, 0);
-        row += 1;
-    }
-    heads
+    moved(deps, todo, none, row, 0)
 }
 
 // The heads where all that is reached is written.
@@ -44,15 +50,9 @@ pub(crate) fn advance(deps: &[u8; 1568], todo: &[bool; 224], heads: Heads, reach
     requires low { Low reach.cols }
     ensures { HeadsFrom deps.now todo.now (past heads.rows reach.cols) result.rows }
 {
-    let mut ahead = heads;
-    let mut row: usize = 0;
-    while row < 7 {
-        let head = heads.rows[row];
-        let end = reach.cols[row];
-        ahead.rows[row] = moved_past(deps, todo, head, row, end);
-        row += 1;
+    Heads {
+        rows: array::from_fn(|row| moved_past(deps, todo, heads.rows[row], row, reach.cols[row])),
     }
-    ahead
 }
 
 // A row's head, moved on where it stands before a column.
@@ -78,34 +78,26 @@ fn moved(deps: &[u8; 1568], todo: &[bool; 224], head: Head, row: usize, from: us
     requires start { Start deps.now row from head.reach.cols }
     ensures { HeadAt deps.now todo.now row from result.col result.reach.cols }
 {
-    let col = first_from(todo, row, from);
-    let before = head.reach;
-    if col < 32 {
-        let reach = search::reach(deps, before, row, col);
-        Head {
-            col: col as u8,
-            reach: reach,
+    match first_from(todo, row, from) {
+        Some(col) => {
+            let reach = search::reach(deps, head.reach, row, col);
+            Head {
+                col: col as u8,
+                reach,
+            }
         }
-    } else {
-        Head {
-            col: col as u8,
-            reach: before,
-        }
+        None => Head {
+            col: 32,
+            reach: head.reach,
+        },
     }
 }
 
-// The first column of a row, from one on, whose slot is to be written, 32 for none.
-fn first_from(todo: &[bool; 224], row: usize, from: usize) -> usize
+// The first column of a row, from one on, whose slot is to be written.
+fn first_from(todo: &[bool; 224], row: usize, from: usize) -> Option<usize>
     requires row_bound { row < 7 }
     requires from_bound { from ≤ 32 }
-    ensures { FirstFrom todo.now row from result }
+    ensures { MatchOption result (FirstFrom todo.now row from 32) (λ col. (col < 32) × FirstFrom todo.now row from col) }
 {
-    let mut col: usize = from;
-    while col < 32 {
-        if todo[32 * row + col] {
-            return col;
-        }
-        col += 1;
-    }
-    col
+    (from..32).find(|col| todo[32 * row + col])
 }

@@ -1,5 +1,5 @@
 -- `visit` and `rows` call each other: each visit adds a slot, so that what is not seen falls.
-use Prim.Native.Nat.{◌+◌, ◌*◌, ◌-◌, ◌≤◌}
+use Prim.Native.Nat.{◌+◌, ◌*◌, ◌≤◌}
 use Rattle.leads.proofs.SearchLaws.{room, PassedTo}
 use Rattle.leads.proofs.search.+rows_visit.Given as goal
 
@@ -11,6 +11,3 @@ decreases-visit l = 2 * room l.seen.now 7
 
 abbrev pub invariant-rows-loop-row : goal.invariant-rows-loop-row
 invariant-rows-loop-row l = (l.row ≤ 7) × PassedTo l.deps l.i l.row l.initial.seen l.seen
-
-abbrev pub decreases-rows-loop-row : goal.decreases-rows-loop-row
-decreases-rows-loop-row l = 7 - l.row
