@@ -1,2 +1,1 @@
 pub mod KeyLaws
-mod Nested

@@ -1,34 +1,23 @@
--- `keys::columns::Keys::fits` meets its contract: every key passed so far fits.
-use mathlib.Core.Path.{◌≡◌, ap, sym, ◌∙◌}
+-- `keys::columns::Keys::fits` meets its contract: the chain tests each key's columns.
+use mathlib.Core.Path.{◌≡◌, ap, ◌∙◌}
 use mathlib.Core.List.{List}
 use Prim.Native.Nat.{ℕ}
-use native.Mathlib.Omega.{arith}
-use Rattle.base.specs.Below.{all_below}
-use Rattle.deps.specs.Sets.{set_fits}
-use Rattle.keys.specs.Columns.{keys_of, key_fits, keys_fit}
-use Rattle.base.proofs.Loops.{all_none, all_more, all_not}
+use lib.ListN.{length, replicate}
+use borrow.Author.Tests.{tests}
 use borrow.Author.Rules.{rules}
+use Rattle.std.proofs.lemmas.Iterator.{YieldsList-from_slice}
+use Rattle.std.proofs.lemmas.Iterator.Search.{all_from_yields_List}
+use Rattle.base.specs.Below.{all_below}
+use Rattle.base.proofs.Chains.{all_listed}
+use Rattle.deps.specs.Sets.{set_of, set_fits}
+use Rattle.keys.specs.Columns.{key_fits, keys_fit}
 use Rattle.keys.proofs.columns.Keys.fits.Goals as goal
-
-pub loop-key-init : goal.loop-key-init
-loop-key-init c = (search rules, all_none _)
-
-pub returns-then-not-fits : goal.returns-then-not-fits
-unfolding keys_fit
-returns-then-not-fits c =
-    let a = c.args in
-    let r = c.rows-cols in
-    let fails = ap (set_fits a.n) (sym c.columns-set.ensures) ∙ sym c.fits.ensures ∙ c.if-not-fits.true in
-    sym (ap (λ (l : List (List ℕ)). all_below 256 (key_fits a.n (keys_of l))) (sym r.ensures) ∙ all_not (key_fits a.n (keys_of r.result)) 256 _ c.loop-key-test.true fails)
-
-pub loop-key-preserved : goal.loop-key-preserved
-loop-key-preserved c =
-    let a = c.args in
-    (search rules, all_more _ _ c.loop-key.invariant.1 (ap (set_fits a.n) (sym c.columns-set.ensures) ∙ sym c.fits.ensures ∙ c.if-not-fits.false))
 
 pub returns : goal.returns
 unfolding keys_fit
 returns c =
     let a = c.args in
-    let e : c.loop-key.key ≡ 256 = omega arith in
-    sym (ap (λ (l : List (List ℕ)). all_below 256 (key_fits a.n (keys_of l))) (sym c.rows-cols.ensures) ∙ rw e at c.loop-key.invariant.1)
+    let l : length a.self.cols ≡ 256 = search rules in
+    all_from_yields_List (λ (cols : List ℕ). set_fits a.n (set_of cols)) _ _ _ c.all.ensures.ran (YieldsList-from_slice a.self.cols (cc)) (λ x b q k. search (rules, tests))
+    ∙ all_listed (λ cols. set_fits a.n (set_of cols)) a.self.cols (replicate 7 0)
+    ∙ ap (λ (n : ℕ). all_below n (key_fits a.n a.self)) l

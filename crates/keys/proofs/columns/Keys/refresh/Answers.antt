@@ -1,42 +1,42 @@
 -- `keys::columns::Keys::refresh` meets its contract: raised so far are the keys that the requests passed put.
-use mathlib.Core.Path.{◌≡◌, ap, ◌∙◌}
-use mathlib.Core.List.{List, foldl}
+use mathlib.Core.Path.{◌≡◌, refl, ap, ◌∙◌}
+use mathlib.Core.List.{List, [], foldl, flat_map}
 use Prim.Native.Nat.{ℕ}
-use native.Mathlib.Omega.{arith}
-use lib.ListN.{length, get_or}
-use Rattle.deps.specs.Batches.{no_request, present}
-use Rattle.keys.specs.Columns.{key_entered, put_keys, refreshed_by, keys_of, raise_key}
-use Rattle.keys.specs.declared.columns.Keys.{Keys}
-use Rattle.base.proofs.Loops.{fold_none, fold_more, fold_all}
-use Rattle.base.proofs.Lists.{length_mapped}
-use Rattle.deps.proofs.BatchLaws.{held_number}
-use Rattle.keys.proofs.KeyLaws.{length_raise}
-use borrow.Author.Rules.{rules}
+use lib.ListN.{get_or}
+use lib.Seq.{take_all}
+use Rattle.base.proofs.Loops.{fold_none, fold_more}
+use Rattle.deps.specs.Batches.{no_request}
+use Rattle.deps.specs.declared.batches.Kind.{Kind}
+use Rattle.deps.specs.declared.batches.Kind.TheVariants.{Other, Put, Get}
+use Rattle.deps.specs.declared.batches.Request.{Request}
+use Rattle.keys.specs.Columns.{entered, key_entered, raise_key, refreshed_by}
 use Rattle.keys.proofs.columns.Keys.refresh.Goals as goal
+use Rattle.keys.proofs.columns.Keys.refresh.Goals.{in_default, in-Put}
 
-pub loop-i-init : goal.loop-i-init
-loop-i-init c =
-    let a = c.args in
-    let b = a.batch in
-    let l : length b.reqs ≡ 4 = search (rules, length_mapped) in
-    (omega arith, omega (arith, held_number b l, c.held-held.ensures), search rules, fold_none (raise_key a.row a.col) key_entered (keys_of c.rows-cols.result) b.reqs)
+enters_none : (kind : Kind) → ((key value : ℕ) → kind ≡ Put key value → ⊥) → entered kind ≡ []
+enters_none Other h = refl
+enters_none (Put key value) h = absurd (h key value refl)
+enters_none (Get key) h = refl
 
-pub loop-i-preserved : goal.loop-i-preserved
-loop-i-preserved c =
+pub loop-request-init : goal.loop-request-init
+loop-request-init c = fold_none (raise_key c.args.row c.args.col) key_entered c.args.self c.requests-request-items.result.now
+
+pub loop-request-preserved : goal.loop-request-preserved
+loop-request-preserved c =
     let a = c.args in
-    let b = a.batch in
-    let k = keys_of c.rows-cols.result in
-    let p = c.loop-i in
-    let l : length b.reqs ≡ 4 = search (rules, length_mapped) in
-    let kept = length_raise a.row a.col (key_entered (get_or b.reqs p.i no_request)) (keys_of p.cols) in
-    (omega arith, omega arith, ap (λ (x : Keys). length x.cols) c.enter.ensures ∙ kept ∙ p.invariant.2, fold_more (raise_key a.row a.col) key_entered k b.reqs p.i no_request (omega arith) p.invariant.3 c.enter.ensures)
+    let f = raise_key a.row a.col in
+    let p = c.loop-request in
+    let l = c.requests-request-items.result.now in
+    let kind = (get_or l p.request-index no_request).kind in
+    let more = fold_more f key_entered a.self l p.request-index no_request c.loop-request-test.true p.invariant in
+    elim c.match-request.branch [
+      | in_default w ↦ more (w.out-is ∙ rw (enters_none kind w.in_default.not-Put))
+      | in-Put w ↦ more (w.out-is ∙ w.raise.ensures ∙ ap (f p.out) w.from.ensures ∙ rw w.in-Put.is)
+    ]
 
 pub returns : goal.returns
 unfolding refreshed_by
 returns c =
     let a = c.args in
-    let b = a.batch in
-    let k = keys_of c.rows-cols.result in
-    let p = c.loop-i in
-    let e : p.i ≡ length (present b) = omega (arith, c.held-held.ensures) in
-    c.of.ensures ∙ p.invariant.3 ∙ fold_all (raise_key a.row a.col) key_entered k b.reqs b.count p.i e ∙ ap (λ (l : List (List ℕ)). foldl (raise_key a.row a.col) (keys_of l) (put_keys b)) c.rows-cols.ensures
+    let all = c.requests-request-items in
+    c.loop-request.invariant ∙ ap (λ (l : List Request). foldl (raise_key a.row a.col) a.self (flat_map key_entered l)) (take_all c.loop-request.request-index all.result.now c.loop-request-test.false ∙ all.ensures)

@@ -1,13 +1,8 @@
 -- `keys::columns::Keys::refresh` meets its contract: raised so far are the keys that the requests passed put.
 use mathlib.Core.Path.{◌≡◌}
-use Prim.Native.Nat.{◌≤◌, ◌-◌}
-use lib.ListN.{length}
-use Rattle.keys.specs.Columns.{key_entered, keys_of, raise_key}
+use Rattle.keys.specs.Columns.{key_entered, raise_key}
 use Rattle.base.proofs.Loops.{folded}
 use Rattle.keys.proofs.columns.Keys.refresh.Given as goal
 
-abbrev pub invariant-loop-i : goal.invariant-loop-i
-invariant-loop-i l = (l.i ≤ l.held) × (l.held ≤ 4) × (length l.cols ≡ 256) × (keys_of l.cols ≡ folded (raise_key l.row l.col) key_entered (keys_of l.initial.cols) l.batch.reqs l.i)
-
-abbrev pub decreases-loop-i : goal.decreases-loop-i
-decreases-loop-i l = l.held - l.i
+abbrev pub invariant-loop-request : goal.invariant-loop-request
+invariant-loop-request l = l.out ≡ folded (raise_key l.fn.row l.fn.col) key_entered l.fn.self l.request-items l.request-index
