@@ -16,7 +16,7 @@ pub struct Slot {
     pub seq: u32, // the limit of a sequence is that of its type
     pub status: Status,
     pub deps: DepSet,
-    pub source: u8, // 0 for none, p + 1 for the peer p
+    pub source: u8, // 0 for none, p + 1 for the peer p: the byte of the image that C holds, and not an Option
     pub led: bool,
     pub marks: [bool; 7],
 }
@@ -38,16 +38,13 @@ impl Slot {
     pub fn store(self, ballot: u64, status: Status, seq: u32, deps: DepSet, batch: Batch) -> Slot
         ensures { result ≡ stored_with self ballot status seq deps batch }
     {
-        let marks = self.marks;
         Slot {
-            ballot: ballot,
-            status: status,
-            seq: seq,
-            deps: deps,
-            batch: batch,
-            source: self.source,
-            led: self.led,
-            marks: marks,
+            ballot,
+            status,
+            seq,
+            deps,
+            batch,
+            ..self
         }
     }
 
@@ -56,19 +53,21 @@ impl Slot {
         requires { peer < 7 }
         ensures { result ≡ heard_from self peer }
     {
-        let mut out = self;
-        out.source = (peer + 1) as u8;
-        out
+        Slot {
+            source: (peer + 1) as u8,
+            ..self
+        }
     }
 
     // Led, with no accept marks.
     pub fn lead(self) -> Slot
         ensures { result ≡ leading self }
     {
-        let mut out = self;
-        out.led = true;
-        out.marks = [false; 7];
-        out
+        Slot {
+            led: true,
+            marks: [false; 7],
+            ..self
+        }
     }
 
     // The peer marked.
@@ -85,43 +84,36 @@ impl Slot {
     pub fn commit(self) -> Slot
         ensures { result ≡ committed self }
     {
-        let deps = self.deps;
-        let batch = self.batch;
-        self.store(self.ballot, Status::Committed, self.seq, deps, batch)
+        Slot {
+            status: Status::Committed,
+            ..self
+        }
     }
 
     pub fn has_run(self) -> bool
         ensures { result ≡ is_executed self }
     {
-        let status = self.status;
-        status.rank() == 4
+        self.status == Status::Executed
     }
 
     // Executed, as it stands.
     pub fn run(self) -> Slot
         ensures { result ≡ executed self }
     {
-        let deps = self.deps;
-        let batch = self.batch;
-        self.store(self.ballot, Status::Executed, self.seq, deps, batch)
+        Slot {
+            status: Status::Executed,
+            ..self
+        }
     }
 
     // Within the bounds of n rows.
+    #[tactic(auto, unfolding(crate::specs::Slot::slot_fits))]
     pub fn fits(self, n: usize) -> bool
         ensures { result ≡ slot_fits n self }
     {
-        if n < self.source as usize {
-            return false;
-        }
-        let deps = self.deps;
-        if !deps.fits(n) {
-            return false;
-        }
-        let batch = self.batch;
-        if !batch.fits() {
-            return false;
-        }
-        let marks = self.marks;
-        marks::fit(marks, n)
+        usize::from(self.source) <= n
+            && self.deps.fits(n)
+            && self.batch.fits()
+            && marks::fit(self.marks, n)
     }
 }
