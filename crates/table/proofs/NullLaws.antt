@@ -1,14 +1,17 @@
--- Null slots added one after the other.
-use mathlib.Core.Path.{◌≡◌, refl, sym, ◌∙◌}
+-- Null slots added one after the other, and as one.
+use mathlib.Core.Path.{◌≡◌, refl, ap, sym, ◌∙◌}
 use mathlib.Core.List.{List}
 use mathlib.Core.Bool.{Bool, true, false}
 use mathlib.Core.Logic.{⊎_elim}
-use Prim.Native.Nat.{ℕ, suc, ◌≤◌, ◌<◌}
+use Prim.Native.Nat.{ℕ, zero, suc, ◌+◌, ◌≤◌, ◌<◌}
 use native.Mathlib.Omega.{arith}
 use borrow.Author.Tests.{eqb-true, eqb-false}
 use lib.Dec.{eqb}
-use lib.ListN.{length, get_or, set, length-set}
-use lib.Seq.{ext_get_or, get_or-set_same, get_or-set_other}
+use lib.ListN.{length, get_or, set, replicate, length-set, length-replicate}
+use lib.Seq.{ext_get_or, get_or-set_same, get_or-set_other, paste}
+use borrow.Rule.Slice.PartMut.{put_mid}
+use Rattle.std.proofs.lemmas.List.Edits.{paste_none, fill_from_more}
+use Rattle.std.proofs.lemmas.Slice.{put_mid-paste}
 use Rattle.base.proofs.Loops.{length_below}
 use Rattle.slots.specs.Slot.{null_slot, blank_slot}
 use Rattle.table.specs.Table.{null_in, nulls_in}
@@ -46,3 +49,21 @@ nulls_more t a b l m =
         (λ n. other ∙ n.2 ∙ sym (null_between t a (suc b) i n.0 (omega (arith, n.1)) k))
         (λ n. other ∙ n.1 ∙ sym (kept_outside t a (suc b) i (λ p q. n.0 p (omega (arith, q, eqb-false i b e))) k))
         (null_or_kept t a b i k)
+
+-- as many as there are from one index up to another
+nulls_paste : (t : Table) (a i : ℕ) → length t.slots ≡ 224 → a + i ≤ 224 → paste t.slots a (replicate i null_slot) i ≡ nulls_in t a (a + i)
+nulls_paste t a zero e l =
+    let z : a ≡ a + zero = omega arith in
+    sym (paste_none t.slots a (replicate 0 null_slot)) ∙ sym (nulls_none t a e) ∙ ap (nulls_in t a) z
+nulls_paste t a (suc i) e l =
+    let z : i + 1 ≡ suc i = omega arith in
+    let s : suc (a + i) ≡ a + suc i = omega arith in
+    let f = fill_from_more t.slots a i null_slot (omega (arith, e)) in
+    sym (rw z at f)
+    ∙ ap (λ (x : List Slot). set x (a + i) null_slot) (nulls_paste t a i e (omega arith))
+    ∙ nulls_more t a (a + i) (omega arith) (omega arith)
+    ∙ ap (nulls_in t a) s
+
+pub nulls_mid : (t : Table) (a k b : ℕ) (new : List Slot) → length t.slots ≡ 224 → a + k ≡ b → b ≤ 224 → new ≡ replicate k null_slot → put_mid a k t.slots new ≡ nulls_in t a b
+nulls_mid t a k b new e z l h =
+    put_mid-paste a k t.slots new (replicate k null_slot) k h refl (sym (length-replicate k null_slot)) ∙ nulls_paste t a k e (omega arith) ∙ ap (nulls_in t a) z

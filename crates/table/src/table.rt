@@ -25,33 +25,25 @@ impl Table {
     pub const NULLS: [Slot; 224] = [Slot::NULL; 224];
 
     // No slot in any row, every bar at 0, no key entered.
+    #[tactic(auto, unfolding(crate::specs::Table::empty_table))]
     pub fn empty(config: Config) -> Table
         ensures { result ≡ empty_table config }
     {
-        let keys = Keys::empty();
-        let slots = Table::NULLS;
         Table {
-            config: config,
-            slots: slots,
+            config,
+            slots: Table::NULLS,
             lens: [0; 7],
             bars: [0; 7],
-            keys: keys,
+            keys: Keys::EMPTY,
         }
     }
 
     // Whether the place has a slot.
+    #[tactic(auto, unfolding(crate::specs::Table::holds))]
     pub fn holds(self, at: Place) -> bool
         ensures { result ≡ holds self at }
     {
-        let row = at.row;
-        if 7 <= row {
-            return false;
-        }
-        if 32 <= at.col {
-            return false;
-        }
-        let lens = self.lens;
-        at.col < lens[row]
+        at.row < 7 && at.col < 32 && at.col < self.lens[at.row]
     }
 
     pub fn slot(self, at: Place) -> Slot
@@ -59,8 +51,7 @@ impl Table {
         requires col_bound { at.col < 32 }
         ensures { result ≡ slot_of self at }
     {
-        let index = at.index();
-        self.slots[index]
+        self.slots[at.index()]
     }
 
     // The slot at the place; no key is entered.
@@ -70,22 +61,19 @@ impl Table {
         ensures { result ≡ put_at self at slot }
     {
         let mut out = self;
-        let index = at.index();
-        out.slots[index] = slot;
+        out.slots[at.index()] = slot;
         out
     }
 
     // The slot at the place, and the keys refreshed with its batch.
+    #[tactic(auto, unfolding(crate::specs::Table::stored_at))]
     pub fn store(self, at: Place, slot: Slot) -> Table
         requires row_bound { at.row < 7 }
         requires col_bound { at.col < 32 }
         ensures { result ≡ stored_at self at slot }
     {
         let mut out = self.put(at, slot);
-        let keys = out.keys;
-        let batch = slot.batch;
-        let refreshed = keys.refresh(at.row, at.col, batch);
-        out.keys = refreshed;
+        out.keys = out.keys.refresh(at.row, at.col, slot.batch);
         out
     }
 
@@ -95,19 +83,13 @@ impl Table {
         requires col_bound { at.col < 32 }
         ensures { result ≡ nulls_to self at }
     {
-        let row = at.row;
-        let lens = self.lens;
-        let len = lens[row];
+        let len = self.lens[at.row];
         if at.col < len {
             return self;
         }
         let mut out = self;
-        let mut col = len;
-        while col <= at.col {
-            out.slots[32 * row + col] = Slot::NULL;
-            col += 1;
-        }
-        out.lens[row] = at.col + 1;
+        out.slots[32 * at.row + len..=32 * at.row + at.col].fill(Slot::NULL);
+        out.lens[at.row] = at.col + 1;
         out
     }
 
@@ -115,7 +97,6 @@ impl Table {
     pub fn identify(self, batch: Batch) -> DepSet
         ensures { result ≡ identify_of self.keys batch }
     {
-        let keys = self.keys;
-        keys.identify(batch)
+        self.keys.identify(batch)
     }
 }
