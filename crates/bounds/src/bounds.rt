@@ -3,28 +3,30 @@ ghost use Rattle.std.specs.Prelude.{◌≡◌};
 ghost use Rattle.base.specs.Refusals.{first_refusal, refused_number};
 ghost use Rattle.bounds.specs.Bounds.{row_fits, rows_fit, slots_fit, table_fits, place_tests_in, place_refusal};
 
+use super::shown::Shown;
 use base::refusals::Refusal;
 use table::place::Place;
 use table::table::Table;
 
 // The one test, for every entry.
-pub fn fits(table: Table) -> bool
-    ensures { result ≡ table_fits table }
+pub fn fits<S: Shown>(shown: &S) -> bool
+    ensures { result ≡ table_fits (S.table shown.now) }
 {
-    if !table.config.fits() {
+    let config = shown.config();
+    if !config.fits() {
         return false;
     }
-    if !rows_fit(table.config.n, table.lens, table.bars) {
+    if !rows_fit(config.n, shown.lens(), shown.bars()) {
         return false;
     }
-    slots_fit(table) && table.keys.fits(table.config.n)
+    slots_fit(shown) && shown.keys().fits(config.n)
 }
 
 // The first refusal of a place: of the table, of the row, of the column.
 pub fn refusal(table: Table, at: Place) -> Result<(), Refusal>
     ensures { refused_number result ≡ place_refusal table at }
 {
-    of_place(fits(table), table.config.n, at)
+    of_place(fits(&table), table.config.n, at)
 }
 
 // The same, of what is known of a table: whether it is within the bounds, and how many rows it has.
@@ -43,12 +45,14 @@ pub fn of_place(within: bool, n: usize, at: Place) -> Result<(), Refusal>
     Ok(())
 }
 
-// Every slot that the table holds.
-fn slots_fit(table: Table) -> bool
-    ensures { result ≡ slots_fit table }
+// Every slot that the table holds; the others are not looked at.
+fn slots_fit<S: Shown>(shown: &S) -> bool
+    ensures { result ≡ slots_fit (S.table shown.now) }
 {
+    let config = shown.config();
+    let lens = shown.lens();
     for i in 0..224 {
-        if i % 32 < table.lens[i / 32] && !table.slots[i].fits(table.config.n) {
+        if i % 32 < lens[i / 32] && !shown.slot_fits(i, config.n) {
             return false;
         }
     }
@@ -59,12 +63,7 @@ fn slots_fit(table: Table) -> bool
 pub fn rows_fit(n: usize, lens: [usize; 7], bars: [usize; 7]) -> bool
     ensures { result ≡ rows_fit n lens bars }
 {
-    for row in 0..7 {
-        if !row_fits(n, row, lens[row], bars[row]) {
-            return false;
-        }
-    }
-    true
+    (0..7).all(|row| row_fits(n, row, lens[row], bars[row]))
 }
 
 // At most 32 slots, and none in a row n or more; the bar not past them.

@@ -2,18 +2,19 @@
 ghost use Rattle.std.specs.Prelude.{◌≡◌};
 ghost use Rattle.bounds.specs.Highest.{is_held, highest_of};
 
+use super::shown::Shown;
 use deps::sets::DepSet;
-use table::table::Table;
 
 // The greatest over the set's slots that the table holds, 0 if none.
-pub fn highest(table: Table, set: DepSet) -> u32
-    ensures { result ≡ highest_of table set }
+pub fn highest<S: Shown>(shown: &S, set: DepSet) -> u32
+    ensures { result ≡ highest_of (S.table shown.now) set }
 {
+    let lens = shown.lens();
     let mut highest: u32 = 0;
     for row in 0..7 {
         let number = usize::from(set.cols[row]);
-        if is_held(number, table.lens[row]) {
-            highest = highest.max(table.slots[32 * row + (number - 1)].seq);
+        if is_held(number, lens[row]) {
+            highest = highest.max(shown.slot_no(32 * row + (number - 1)).seq);
         }
     }
     highest

@@ -4,7 +4,7 @@ ghost use Rattle.bounds.specs.Open.{open_of};
 
 use base::answer::Answer;
 use base::config::Config;
-use base::refusals;
+use base::refusals::Refusal;
 use table::table::Table;
 
 // A table that is refused has no slot, and the configuration that was: every entry refuses it again.
@@ -28,7 +28,7 @@ pub fn open(n: usize, own: usize, simple: usize, sup: usize) -> Opened
         Answer::Done
     } else {
         Answer::Refused {
-            number: refusals::OUTSIDE_BOUNDS,
+            number: Refusal::OutsideBounds.number(),
         }
     };
     Opened {

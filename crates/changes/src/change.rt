@@ -1,5 +1,5 @@
 // What a handler makes of a table.
-ghost use Rattle.std.specs.Prelude.{◌≡◌};
+ghost use Rattle.std.specs.Prelude.{◌≡◌, leb};
 ghost use Rattle.changes.specs.Change.{Inside, changed, changed_table, reach_of, refusing, ignoring};
 
 use base::answer::Answer;
@@ -10,7 +10,7 @@ use table::place::Place;
 use table::table::Table;
 
 // How much of the table changes: nothing; null slots up to the column; after these the slot; after that the keys.
-#[derive(Clone, Copy)]
+#[derive(Clone, Copy, PartialEq, Eq)]
 pub enum Extent {
     Nothing,
     Nulls,
@@ -27,13 +27,14 @@ pub struct Change {
 }
 
 impl Change {
+    // By its number, and not as a Refusal: every number is taken, and the type would ask more of callers.
     pub fn refused(number: u64) -> Change
         ensures { result ≡ refusing number }
     {
         Change {
             slot: Slot::NULL,
             output: Output::NONE,
-            answer: Answer::Refused { number: number },
+            answer: Answer::Refused { number },
             extent: Extent::Nothing,
         }
     }
@@ -45,7 +46,7 @@ impl Change {
             slot: Slot::NULL,
             output: Output::NONE,
             answer: Answer::Ignored,
-            extent: extent,
+            extent,
         }
     }
 
@@ -54,30 +55,32 @@ impl Change {
         requires { Inside self.extent at }
         ensures { result ≡ changed table at self }
     {
-        let slot = self.slot;
-        let output = self.output;
-        let answer = self.answer;
-        let extent = self.extent;
-        let after = extent.table(table, at, slot);
         Outcome {
-            answer: answer,
-            table: after,
-            output: output,
+            answer: self.answer,
+            table: self.extent.table(table, at, self.slot),
+            output: self.output,
         }
     }
 }
 
 impl Extent {
-    // Of the four in order, from 0 on: what has one has those before it.
-    pub fn reach(self) -> u64
-        ensures { result ≡ reach_of self }
+    // The four in order: what has one has those before it.
+    pub fn has_nulls(self) -> bool
+        ensures { result ≡ leb 1 (reach_of self) }
     {
-        match self {
-            Extent::Nothing => 0,
-            Extent::Nulls => 1,
-            Extent::Slot => 2,
-            Extent::Keys => 3,
-        }
+        self != Extent::Nothing
+    }
+
+    pub fn has_slot(self) -> bool
+        ensures { result ≡ leb 2 (reach_of self) }
+    {
+        matches!(self, Extent::Slot | Extent::Keys)
+    }
+
+    pub fn has_keys(self) -> bool
+        ensures { result ≡ leb 3 (reach_of self) }
+    {
+        self == Extent::Keys
     }
 
     fn table(self, table: Table, at: Place, slot: Slot) -> Table

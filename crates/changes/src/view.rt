@@ -6,11 +6,11 @@ ghost use Rattle.changes.specs.View.{slot_seen, view_with, view_of};
 use base::config::Config;
 use bounds::bounds::fits;
 use bounds::highest::highest;
+use bounds::shown::Shown;
 use deps::batches::Batch;
 use deps::sets::DepSet;
 use slots::slot::Slot;
 use table::place::Place;
-use table::table::Table;
 
 #[derive(Clone, Copy)]
 pub struct View {
@@ -23,40 +23,39 @@ pub struct View {
 }
 
 // For a message that is to the place and has the batch.
-pub fn look(table: Table, at: Place, batch: Batch) -> View
-    ensures { result ≡ view_of table at batch }
+pub fn look<S: Shown>(shown: &S, at: Place, batch: Batch) -> View
+    ensures { result ≡ view_of (S.table shown.now) at batch }
 {
-    let mine = table.identify(batch);
-    look_with(table, at, mine, highest(table, mine))
+    let mine = shown.keys().identify(batch);
+    look_with(shown, at, mine, highest(shown, mine))
 }
 
 // For one without contents: an empty batch waits for nothing.
-pub fn look_plain(table: Table, at: Place) -> View
-    ensures { result ≡ view_of table at no_op }
+pub fn look_plain<S: Shown>(shown: &S, at: Place) -> View
+    ensures { result ≡ view_of (S.table shown.now) at no_op }
 {
-    look_with(table, at, DepSet::EMPTY, 0)
+    look_with(shown, at, DepSet::EMPTY, 0)
 }
 
-fn look_with(table: Table, at: Place, mine: DepSet, highest: u32) -> View
-    ensures { result ≡ view_with table at mine highest }
+fn look_with<S: Shown>(shown: &S, at: Place, mine: DepSet, highest: u32) -> View
+    ensures { result ≡ view_with (S.table shown.now) at mine highest }
 {
-    let slot = slot_seen(table, at);
-    let config = table.config;
     View {
-        slot: slot,
-        config: config,
-        mine: mine,
-        highest: highest,
-        within: fits(table),
-        held: table.holds(at),
+        slot: slot_seen(shown, at),
+        config: shown.config(),
+        mine,
+        highest,
+        within: fits(shown),
+        held: shown.holds(at),
     }
 }
 
-fn slot_seen(table: Table, at: Place) -> Slot
-    ensures { result ≡ slot_seen table at }
+fn slot_seen<S: Shown>(shown: &S, at: Place) -> Slot
+    ensures { result ≡ slot_seen (S.table shown.now) at }
 {
-    if !table.holds(at) {
-        return Slot::NULL;
+    if shown.holds(at) {
+        shown.slot_no(32 * at.row + at.col)
+    } else {
+        Slot::NULL
     }
-    table.slot(at)
 }

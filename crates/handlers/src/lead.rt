@@ -16,7 +16,7 @@ use table::table::Table;
 pub fn lead(table: Table, at: Place) -> Outcome
     ensures { result ≡ outcome_of table (lead_slot table at) }
 {
-    led(look_plain(table, at), at).apply(table, at)
+    led(look_plain(&table, at), at).apply(table, at)
 }
 
 // The decision, whatever the batch that the view was made for.

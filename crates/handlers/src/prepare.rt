@@ -17,7 +17,7 @@ pub fn exp_prepare(table: Table, message: Message) -> Outcome
     ensures { result ≡ outcome_of table (exp_prepare table message) }
 {
     let at = message.at;
-    answered(look_plain(table, at), message).apply(table, at)
+    answered(look_plain(&table, at), message).apply(table, at)
 }
 
 // The decision, whatever the batch that the view was made for.

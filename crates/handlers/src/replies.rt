@@ -22,7 +22,7 @@ pub fn accept_reply(table: Table, message: Message) -> Outcome
     ensures { result ≡ outcome_of table (accept_reply table message) }
 {
     let at = message.at;
-    reply(look_plain(table, at), message).apply(table, at)
+    reply(look_plain(&table, at), message).apply(table, at)
 }
 
 // The decision, whatever the batch that the view was made for.

@@ -4,6 +4,8 @@ use mathlib.Core.List.{List}
 use Prim.Native.Nat.{ℕ, suc, ◌+◌, ◌*◌, ◌<◌, ◌≤◌}
 use native.Mathlib.Omega.{arith}
 use borrow.Author.Tests.{le-ltb}
+use lib.Dec.{leb}
+use mathlib.Core.Bool.{true, false}
 use lib.ListN.{length}
 use Rattle.slots.specs.Slot.{null_slot}
 use Rattle.slots.specs.declared.slot.Slot.{Slot}
@@ -35,32 +37,26 @@ grown_put t at len r l e m =
 -- ---- how far a change reaches
 
 module _ (t : Table) (at : Place) (s : Slot) where
-  pub none_changed : (x : Extent) → reach_of x < 1 → changed_table x t at s ≡ t
-  none_changed Extents.Nothing l = refl
-  none_changed Extents.Nulls l = absurd (omega arith)
-  none_changed Extents.Slot l = absurd (omega arith)
-  none_changed Extents.Keys l = absurd (omega arith)
-
-  pub nulls_changed : (x : Extent) → 1 ≤ reach_of x → reach_of x < 2 → changed_table x t at s ≡ nulls_to t at
-  nulls_changed Extents.Nothing l m = absurd (omega arith)
+  pub nulls_changed : (x : Extent) → leb 1 (reach_of x) ≡ true → leb 2 (reach_of x) ≡ false → changed_table x t at s ≡ nulls_to t at
+  nulls_changed Extents.Nothing l m = cc
   nulls_changed Extents.Nulls l m = refl
-  nulls_changed Extents.Slot l m = absurd (omega arith)
-  nulls_changed Extents.Keys l m = absurd (omega arith)
+  nulls_changed Extents.Slot l m = cc
+  nulls_changed Extents.Keys l m = cc
 
-  pub slot_changed : (x : Extent) → 2 ≤ reach_of x → reach_of x < 3 → changed_table x t at s ≡ put_at (nulls_to t at) at s
-  slot_changed Extents.Nothing l m = absurd (omega arith)
-  slot_changed Extents.Nulls l m = absurd (omega arith)
+  pub slot_changed : (x : Extent) → leb 2 (reach_of x) ≡ true → leb 3 (reach_of x) ≡ false → changed_table x t at s ≡ put_at (nulls_to t at) at s
+  slot_changed Extents.Nothing l m = cc
+  slot_changed Extents.Nulls l m = cc
   slot_changed Extents.Slot l m = refl
-  slot_changed Extents.Keys l m = absurd (omega arith)
+  slot_changed Extents.Keys l m = cc
 
-  pub keys_changed : (x : Extent) → 3 ≤ reach_of x → changed_table x t at s ≡ stored_at (nulls_to t at) at s
-  keys_changed Extents.Nothing l = absurd (omega arith)
-  keys_changed Extents.Nulls l = absurd (omega arith)
-  keys_changed Extents.Slot l = absurd (omega arith)
+  pub keys_changed : (x : Extent) → leb 3 (reach_of x) ≡ true → changed_table x t at s ≡ stored_at (nulls_to t at) at s
+  keys_changed Extents.Nothing l = cc
+  keys_changed Extents.Nulls l = cc
+  keys_changed Extents.Slot l = cc
   keys_changed Extents.Keys l = refl
 
-pub reaches_inside : (x : Extent) (at : Place) → 1 ≤ reach_of x → Inside x at → (at.row < 7) × (at.col < 32)
-reaches_inside Extents.Nothing at l h = absurd (omega arith)
+pub reaches_inside : (x : Extent) (at : Place) → leb 1 (reach_of x) ≡ true → Inside x at → (at.row < 7) × (at.col < 32)
+reaches_inside Extents.Nothing at l h = cc
 reaches_inside Extents.Nulls at l h = h
 reaches_inside Extents.Slot at l h = h
 reaches_inside Extents.Keys at l h = h

@@ -4,6 +4,7 @@ ghost use Rattle.changes.specs.Change.{Inside, changed_table};
 ghost use Rattle.image.specs.Tables.{image_width, image_known, table_at, table_bytes};
 ghost use Rattle.in_place.specs.Filled.{Filled};
 
+use super::view::slot_start;
 use changes::change::Extent;
 use image::rows::{keys_at, put_keys, rows_at};
 use image::tables::clear;
@@ -21,22 +22,20 @@ pub fn apply_at(image: &mut [u8], at: Place, slot: Slot, extent: Extent)
 {
     let lens = rows_at(image, 4);
     let keys = keys_at(image, 18);
-    let reach = extent.reach();
     clear(image);
-    if reach < 1 {
+    if !extent.has_nulls() {
         return;
     }
-    let row = at.row;
-    fill_at(image, at, lens[row]);
-    if reach < 2 {
+    fill_at(image, at, lens[at.row]);
+    if !extent.has_slot() {
         return;
     }
-    put_slot(image, 1810 + 142 * (32 * at.row + at.col), slot);
-    if reach < 3 {
+    let start = slot_start(32 * at.row + at.col);
+    put_slot(image, start, slot);
+    if !extent.has_keys() {
         return;
     }
-    let batch = slot.batch;
-    let refreshed = keys.refresh(at.row, at.col, batch);
+    let refreshed = keys.refresh(at.row, at.col, slot.batch);
     put_keys(image, 18, refreshed);
 }
 
@@ -50,11 +49,8 @@ fn fill_at(image: &mut [u8], at: Place, len: usize)
     if at.col < len {
         return;
     }
-    let row = at.row;
-    let mut col = len;
-    while col <= at.col {
-        put_slot(image, 1810 + 142 * (32 * row + col), Slot::NULL);
-        col += 1;
+    for col in len..at.col + 1 {
+        put_slot(image, slot_start(32 * at.row + col), Slot::NULL);
     }
-    put_byte(image, 4 + row, byte(at.col + 1));
+    put_byte(image, 4 + at.row, byte(at.col + 1));
 }

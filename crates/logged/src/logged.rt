@@ -38,7 +38,7 @@ pub fn logged(table: Table, at: Place, status: LogStatus, order: &mut [u8]) -> L
     if order.len() < 224 {
         return Outcome::refused(table, Refusal::ShortOrder.number()).into();
     }
-    let view = look_plain(table, at);
+    let view = look_plain(&table, at);
     if let Err(refusal) = of_led(view.within, view.config.n, view.held, at) {
         return Outcome::refused(table, refusal.number()).into();
     }

@@ -70,7 +70,7 @@ fn propose(phase: Phase, table: Table, proposal: Proposal) -> Outcome
     ensures { result ≡ outcome_of table (proposed phase table proposal) }
 {
     let at = proposal.message.at;
-    let view = look(table, at, proposal.batch);
+    let view = look(&table, at, proposal.batch);
     take(phase, view, proposal).apply(table, at)
 }
 

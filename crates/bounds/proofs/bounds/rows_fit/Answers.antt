@@ -1,26 +1,23 @@
--- `bounds::bounds::rows_fit` meets its contract: every row so far fits.
-use Rattle.base.proofs.Loops.{all_none, all_more, all_not}
-use Rattle.base.proofs.Tests.{passed, failed}
-use Rattle.bounds.specs.Bounds.{row_at, rows_fit}
-use mathlib.Core.Path.{◌≡◌, sym}
+-- `bounds::bounds::rows_fit` meets its contract: the chain tests each row.
+use mathlib.Core.Path.{◌≡◌, refl, ◌∙◌}
+use Prim.Native.Nat.{◌+◌}
 use native.Mathlib.Omega.{arith}
+use lib.ListN.{get_or}
 use borrow.Author.Rules.{rules}
+use borrow.Author.Tests.{tests}
+use Rattle.std.specs.List.{range_with_len}
+use Rattle.std.proofs.lemmas.List.FromFn.{get_or-range_with_len}
+use Rattle.std.proofs.lemmas.Iterator.{YieldsList-from_range}
+use Rattle.std.proofs.lemmas.Iterator.Search.{all_from_yields_List}
+use Rattle.base.proofs.Chains.{all_listed, all_same}
+use Rattle.bounds.specs.Bounds.{row_at, rows_fit}
 use Rattle.bounds.proofs.bounds.rows_fit.Goals as goal
-
-pub loop-row-init : goal.loop-row-init
-loop-row-init c = (search rules, all_none _)
-
-pub returns-then-not-row_fits : goal.returns-then-not-row_fits
-unfolding rows_fit
-returns-then-not-row_fits c =
-    let a = c.args in
-    sym (all_not (row_at a.n a.lens a.bars) 7 _ c.loop-row-test.true (failed c.row_fits.ensures c.if-not-row_fits.true))
-
-pub loop-row-preserved : goal.loop-row-preserved
-loop-row-preserved c = (search rules, all_more _ _ c.loop-row.invariant.1 (passed c.row_fits.ensures c.if-not-row_fits.false))
 
 pub returns : goal.returns
 unfolding rows_fit
 returns c =
-    let e : c.loop-row.row ≡ 7 = omega arith in
-    sym (rw e at c.loop-row.invariant.1)
+    let a = c.args in
+    let test = row_at a.n a.lens a.bars in
+    all_from_yields_List test _ _ _ c.all.ensures.ran (YieldsList-from_range 0 7 7 refl refl) (λ x b q k. search (rules, tests))
+    ∙ all_listed test (range_with_len 0 7) 0
+    ∙ all_same (λ i. test (get_or (range_with_len 0 7) i 0)) test 7 (λ i l. let z : 0 + i ≡ i = omega arith in rw (get_or-range_with_len 0 7 i 0 l, z))

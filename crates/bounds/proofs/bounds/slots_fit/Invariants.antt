@@ -7,4 +7,4 @@ use Prim.Native.Nat.{◌≤◌}
 use Rattle.bounds.proofs.bounds.slots_fit.Given as goal
 
 abbrev pub invariant-loop-i : goal.invariant-loop-i
-invariant-loop-i l = (l.i ≤ 224) × (all_below l.i (held_fits l.table) ≡ true)
+invariant-loop-i g l = (l.i ≤ 224) × (all_below l.i (held_fits (g.S.Shown.table l.shown)) ≡ true)

@@ -6,4 +6,4 @@ use mathlib.Core.Path.{◌≡◌}
 use Rattle.bounds.proofs.highest.highest.Given as goal
 
 abbrev pub invariant-loop-row : goal.invariant-loop-row
-invariant-loop-row l = (l.row ≤ 7) × (l.highest ≡ greatest_below l.row (sequence_in l.table l.set))
+invariant-loop-row g l = (l.row ≤ 7) × (l.highest ≡ greatest_below l.row (sequence_in (g.S.Shown.table l.shown) l.set))

@@ -8,5 +8,5 @@ pub returns : goal.returns
 unfolding open_of
 returns c = elim c.if-fits.branch [
   | then-fits t ↦ rw (passed c.fits.ensures t.if-fits.true, t.answer-is, c.empty.ensures)
-  | else-fits t ↦ rw (failed c.fits.ensures t.if-fits.false, t.answer-is, c.empty.ensures)
+  | else-fits t ↦ rw (failed c.fits.ensures t.if-fits.false, t.answer-is, t.number.ensures, c.empty.ensures)
 ]

@@ -5,4 +5,4 @@ use Rattle.changes.proofs.view.look.Goals as goal
 
 pub returns : goal.returns
 unfolding view_of
-returns c = c.look_with.ensures ∙ rw (c.highest.ensures, c.identify-mine.ensures)
+returns g c = c.look_with.ensures ∙ rw (c.highest.ensures, c.identify-mine.ensures, c.keys.ensures)

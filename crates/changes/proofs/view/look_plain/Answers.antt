@@ -15,6 +15,6 @@ waits_for_nothing k = refl
 
 pub returns : goal.returns
 unfolding view_of
-returns c =
-    let t = c.args.table in
+returns g c =
+    let t = g.S.Shown.table c.args.shown.now in
     c.look_with.ensures ∙ sym (rw (waits_for_nothing t.keys, highest_none t))

@@ -1,9 +1,11 @@
 -- `in_place::change::apply_at` meets its contract: the table's bytes, then null slots, the slot and the keys in them, as far as the change reaches.
 use mathlib.Core.Path.{◌≡◌, ap, sym, ◌∙◌}
 use mathlib.Core.List.{List}
-use Prim.Native.Nat.{ℕ, ◌≤◌, ◌+◌, ◌*◌}
-use native.Mathlib.Omega.{arith}
+use Prim.Native.Nat.{ℕ, ◌+◌, ◌*◌}
+use lib.Dec.{leb}
 use lib.ListN.{get_or, drop}
+use mathlib.Core.Bool.{true}
+use Rattle.base.proofs.Tests.{passed, failed}
 use Rattle.keys.specs.Columns.{refreshed_by}
 use Rattle.keys.specs.declared.columns.Keys.{Keys}
 use Rattle.slots.specs.declared.slot.Slot.{Slot}
@@ -29,7 +31,7 @@ filled : (l : List ℕ) (at : Place) {rows before after : List ℕ} → rows ≡
 filled l at r e f = f (table_at l) (seven_rows l) (all_slots l) (ap (λ (x : List ℕ). get_or x at.row 0) (lens_are l ∙ sym r)) e
 
 -- and with the slot
-put : (l : List ℕ) (at : Place) (s : Slot) (x : Extent) {n after : List ℕ} → n ≡ table_bytes (nulls_to (table_at l) at) → 1 ≤ reach_of x → Inside x at
+put : (l : List ℕ) (at : Place) (s : Slot) (x : Extent) {n after : List ℕ} → n ≡ table_bytes (nulls_to (table_at l) at) → leb 1 (reach_of x) ≡ true → Inside x at
     → after ≡ lay n (1810 + 142 * index_of at) (slot_bytes s) → after ≡ table_bytes (put_at (nulls_to (table_at l) at) at s)
 put l at s x f r i e =
     let p = reaches_inside x at r i in
@@ -37,19 +39,19 @@ put l at s x f r i e =
     ∙ ap (λ (b : List ℕ). lay b (1810 + 142 * index_of at) (slot_bytes s)) f
     ∙ slot_put (nulls_to (table_at l) at) (index_of at) s (index_below at p.0 p.1) (nulls_length (table_at l) at (all_slots l))
 
-pub returns-then-reach-lt2 : goal.returns-then-reach-lt2
-returns-then-reach-lt2 c =
+pub returns-then-not-has_slot : goal.returns-then-not-has_slot
+returns-then-not-has_slot c =
     let a = c.args in
-    let r = c.reach-reach.ensures in
+    let nulls = passed c.has_nulls.ensures c.if-not-has_nulls.false in
     filled a.image.now a.at c.rows_at-lens.ensures c.clear.ensures c.fill_at.ensures
-    ∙ ap table_bytes (sym (nulls_changed (table_at a.image.now) a.at a.slot a.extent (omega (arith, r)) (omega (arith, r))))
+    ∙ ap table_bytes (sym (nulls_changed (table_at a.image.now) a.at a.slot a.extent nulls (failed c.has_slot.ensures c.if-not-has_slot.true)))
 
-pub returns-then-reach-lt3 : goal.returns-then-reach-lt3
-returns-then-reach-lt3 c =
+pub returns-then-not-has_keys : goal.returns-then-not-has_keys
+returns-then-not-has_keys c =
     let a = c.args in
-    let r = c.reach-reach.ensures in
-    put a.image.now a.at a.slot a.extent (filled a.image.now a.at c.rows_at-lens.ensures c.clear.ensures c.fill_at.ensures) (omega (arith, r)) c.requires.inside c.put_slot.ensures
-    ∙ ap table_bytes (sym (slot_changed (table_at a.image.now) a.at a.slot a.extent (omega (arith, r)) (omega (arith, r))))
+    let nulls = passed c.has_nulls.ensures c.if-not-has_nulls.false in
+    put a.image.now a.at a.slot a.extent (filled a.image.now a.at c.rows_at-lens.ensures c.clear.ensures c.fill_at.ensures) nulls c.requires.inside (rw c.slot_start-start.ensures at c.put_slot.ensures)
+    ∙ ap table_bytes (sym (slot_changed (table_at a.image.now) a.at a.slot a.extent (passed c.has_slot.ensures c.if-not-has_slot.false) (failed c.has_keys.ensures c.if-not-has_keys.true)))
 
 pub returns : goal.returns
 unfolding stored_at
@@ -57,12 +59,12 @@ returns c =
     let a = c.args in
     let l = a.image.now in
     let t = nulls_to (table_at l) a.at in
-    let r = c.reach-reach.ensures in
+    let nulls = passed c.has_nulls.ensures c.if-not-has_nulls.false in
     let keys : c.keys_at-keys.result ≡ t.keys = c.keys_at-keys.ensures ∙ sym (nulls_keys (table_at l) a.at ∙ keys_are l) in
     let new = c.refresh-refreshed.ensures ∙ ap (λ (k : Keys). refreshed_by k a.at.row a.at.col a.slot.batch) keys in
     c.put_keys.ensures
     ∙ ap (λ (x : List ℕ). lay x 18 (keys_bytes c.refresh-refreshed.result))
-    (put l a.at a.slot a.extent (filled l a.at c.rows_at-lens.ensures c.clear.ensures c.fill_at.ensures) (omega (arith, r)) c.requires.inside c.put_slot.ensures)
+    (put l a.at a.slot a.extent (filled l a.at c.rows_at-lens.ensures c.clear.ensures c.fill_at.ensures) nulls c.requires.inside (rw c.slot_start-start.ensures at c.put_slot.ensures))
     ∙ keys_put (put_at t a.at a.slot) c.refresh-refreshed.result
     ∙ ap (λ (k : Keys). table_bytes (with_keys (put_at t a.at a.slot) k)) new
-    ∙ ap table_bytes (sym (keys_changed (table_at l) a.at a.slot a.extent (omega (arith, r))))
+    ∙ ap table_bytes (sym (keys_changed (table_at l) a.at a.slot a.extent (passed c.has_keys.ensures c.if-not-has_keys.false)))

@@ -31,7 +31,7 @@ loop-col-preserved c =
     let a = c.args in
     let from = 32 * a.at.row + a.len in
     let to = 32 * a.at.row + c.loop-col.col in
-    let p = c.put_slot.ensures in (
+    let p = rw c.slot_start.ensures at c.put_slot.ensures in (
       search rules,
       search rules,
       ap length p ∙ lay_length _ _ _ ∙ c.loop-col.invariant.2,

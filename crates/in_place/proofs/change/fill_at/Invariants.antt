@@ -2,7 +2,7 @@
 -- null slots from one index up to another, in the bytes of every table that has these
 use mathlib.Core.Path.{◌≡◌}
 use mathlib.Core.List.{List}
-use Prim.Native.Nat.{ℕ, suc, ◌≤◌, ◌-◌, ◌+◌, ◌*◌}
+use Prim.Native.Nat.{ℕ, suc, ◌≤◌, ◌+◌, ◌*◌}
 use lib.ListN.{length}
 use Rattle.table.specs.Table.{with_slots, nulls_in}
 use Rattle.table.specs.declared.table.Table.{Table}
@@ -13,7 +13,4 @@ abbrev Nulled : ℕ → ℕ → List ℕ → List ℕ → Type 0
 Nulled from to before after = (t : Table) → length t.slots ≡ 224 → before ≡ table_bytes t → after ≡ table_bytes (with_slots t (nulls_in t from to))
 
 abbrev pub invariant-loop-col : goal.invariant-loop-col
-invariant-loop-col l = (l.len ≤ l.col) × (l.col ≤ suc l.at.col) × (length l.image ≡ length l.initial.image) × Nulled (32 * l.row + l.len) (32 * l.row + l.col) l.initial.image l.image
-
-abbrev pub decreases-loop-col : goal.decreases-loop-col
-decreases-loop-col l = suc l.at.col - l.col
+invariant-loop-col l = (l.len ≤ l.col) × (l.col ≤ suc l.at.col) × (length l.image ≡ length l.initial.image) × Nulled (32 * l.at.row + l.len) (32 * l.at.row + l.col) l.initial.image l.image
