@@ -1,7 +1,7 @@
 -- Requests and batches in bytes: how long they are, and that they read back.
 use mathlib.Core.Path.{◌≡◌, refl}
 use mathlib.Core.List.{List, ◌++◌}
-use Prim.Native.Nat.{ℕ, ◌+◌, ◌<◌, min}
+use Prim.Native.Nat.{ℕ, ◌+◌, ◌*◌, ◌<◌, min}
 use native.Mathlib.Omega.{arith}
 use lib.ListN.{length, get_or, drop, length-append}
 use lib.Seq.{drop-drop, get_or-drop}
@@ -73,3 +73,9 @@ batch_back b r g =
 pub reqs_length : (l : List ℕ) → length (batch_at l).reqs ≡ 4
 unfolding batch_at
 reqs_length l = each_length request_at 27 4 (drop 1 l)
+
+-- where a batch has a request
+pub request_place : (s : List ℕ) (at i : ℕ) → drop (at + 1 + 27 * i) s ≡ drop (1 + 27 * i) (drop at s)
+request_place s at i =
+    let e : at + 1 + 27 * i ≡ at + (1 + 27 * i) = omega arith in
+    rw (drop-drop, e)

@@ -1,10 +1,11 @@
 -- Bytes laid over others: one run after the other is one longer run.
 use mathlib.Core.Path.{◌≡◌, refl, ap, ◌∙◌}
-use mathlib.Core.List.{List, [], ◌∷◌, ◌++◌, append-nil}
-use Prim.Native.Nat.{ℕ, ◌+◌}
+use mathlib.Core.List.{List, [], ◌∷◌, ◌++◌, append-nil, append_assoc}
+use Prim.Native.Nat.{ℕ, ◌+◌, ◌-◌, ◌≤◌}
 use native.Mathlib.Omega.{arith}
 use lib.ListN.{length, drop, set, length-append, drop_of_length-le}
 use lib.Seq.{length-sets, sets-eq}
+use borrow.Rule.Slice.PartMut.{put_mid, Post-is}
 use Rattle.base.proofs.Lists.{sets_append}
 use Rattle.layout.specs.Numbers.{lay}
 
@@ -30,6 +31,13 @@ unfolding lay
 lay_whole l a e =
     let z : drop (0 + length a) l ≡ [] = drop_of_length-le l {i = 0 + length a} (omega arith) in
     sets-eq a l 0 (omega arith) ∙ rw z (append-nil a)
+
+-- what is copied into a range is laid where the range begins
+pub lay_range : (l : List ℕ) (i n : ℕ) (a b : List ℕ) → a ≡ b → length b ≡ n → i + n ≤ length l → put_mid i (i + n - i) l a ≡ lay l i b
+unfolding lay
+lay_range l i n a b e f p =
+    let k = Post-is i (i + n) l (omega arith) in
+    rw (e, k, sets-eq b l i (omega arith), f, append_assoc)
 
 -- what a function has laid so far: k bytes, a, over o from i on
 pub record Laid (l o : List ℕ) (i : ℕ) (a : List ℕ) (k : ℕ) : Type 0 where

@@ -4,3 +4,4 @@ pub mod EachLaws
 pub mod BatchLaws
 pub mod PlaceLaws
 pub mod AgainLaws
+pub mod RangeLaws

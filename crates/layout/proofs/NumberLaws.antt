@@ -1,13 +1,15 @@
 -- Numbers in bytes: what is written is as long as it should be and reads back, and what one turn of the loops over bytes does.
 use mathlib.Core.Path.{◌≡◌, refl, ap}
 use mathlib.Core.List.{List, [], ◌∷◌, ◌++◌}
-use Prim.Native.Nat.{ℕ, suc, zero, ◌+◌, ◌*◌, ◌<◌, ◌≤◌, ◌/◌, ◌%◌, ◌^◌, ◌-◌}
+use Prim.Native.Nat.{ℕ, suc, zero, ◌+◌, ◌*◌, ◌<◌, ◌/◌, ◌^◌}
 use native.Mathlib.Numerals.{add-one}
-use native.Mathlib.Nat.{mod-add-div, pow-succ', pow-le-pow_right}
+use native.Mathlib.Nat.{mod-add-div, pow-succ', div-div-eq-div-mul}
 use native.Mathlib.Omega.{arith}
-use lib.ListN.{length, get_or, drop, set}
-use lib.Seq.{sets, drop-nil}
-use Rattle.layout.specs.Numbers.{number_of, number_bytes, word_of, word_bytes, short_of, short_bytes}
+use lib.ListN.{length, get_or, drop}
+use lib.Seq.{drop-nil}
+use Rattle.std.specs.Int.{w16, w64, from_le_bytes, to_le_bytes}
+use Rattle.layout.specs.Numbers.{number_of, number_bytes, word_of, word_bytes, short_of, short_bytes, byte_of}
+use Rattle.layout.specs.Each.{each_at}
 
 pub number_back : (k v : ℕ) (r : List ℕ) → v < 256 ^ k → number_of k (number_bytes k v ++ r) ≡ v
 unfolding number_of number_bytes
@@ -44,42 +46,32 @@ number_step (suc k) at [] = rw drop-nil
 number_step k zero (b ∷ l) = refl
 number_step k (suc at) (b ∷ l) = number_step k at l
 
-module _ (i v b : ℕ) (p : 0 < i) (q : i ≤ 8) where
-  pub read_turn : (s : List ℕ) (at : ℕ) → v ≡ number_of (8 - i) (drop (at + i) s) → b ≡ get_or s (at + (i - 1)) 0
-      → 256 * v + b ≡ number_of (8 - (i - 1)) (drop (at + (i - 1)) s)
-  read_turn s at e f =
-      let g : 8 - (i - 1) ≡ suc (8 - i) = omega arith in
-      let h : at + i ≡ suc (at + (i - 1)) = omega arith in
-      let k = number_step (8 - i) (at + (i - 1)) s in
-      let m : v ≡ number_of (8 - i) (drop (suc (at + (i - 1))) s) = rw h at e in
-      rw (g, k, ← m, ← f) (omega arith)
+-- a word is std's number of eight bytes, low byte first, and its bytes are those that std splits it into
+pub word_made : (l b : List ℕ) (at : ℕ) → b ≡ each_at byte_of 1 8 (drop at l) → from_le_bytes w64 b ≡ word_of (drop at l)
+unfolding each_at number_of
+word_made l b at e =
+    let step = λ (k : ℕ) (m : List ℕ). number_step k 0 m in
+    let d = drop at l in
+    let d₁ = drop 1 d in
+    let d₂ = drop 1 d₁ in
+    let d₃ = drop 1 d₂ in
+    let d₄ = drop 1 d₃ in
+    let d₅ = drop 1 d₄ in
+    let d₆ = drop 1 d₅ in
+    let d₇ = drop 1 d₆ in
+    rw e (omega (arith, step 7 d, step 6 d₁, step 5 d₂, step 4 d₃, step 3 d₄, step 2 d₅, step 1 d₆, step 0 d₇))
 
-  pub bound_turn : v < 256 ^ (8 - i) → b < 256 → 256 * v + b < 256 ^ (8 - (i - 1))
-  bound_turn h k =
-      let g : 8 - (i - 1) ≡ suc (8 - i) = omega arith in
-      rw (g, pow-succ') (omega arith)
-
--- so one byte more still fits
-pub room : (i v : ℕ) → 0 < i → i ≤ 8 → v < 256 ^ (8 - i) → v < 72057594037927936
-room i v p q h =
-    let e : 8 - i ≤ 7 = omega arith in
-    let m : 256 ^ (8 - i) ≤ 256 ^ 7 = pow-le-pow_right (omega arith) e in
-    omega arith
-
--- ---- writing from the lowest byte up: what is left to write, over what is written
-
-pub write_turn : (l : List ℕ) (at i v b : ℕ) → i < 8 → b ≡ v % 256
-    → sets (set l (at + i) b) (at + (i + 1)) (number_bytes (8 - (i + 1)) (v / 256)) ≡ sets l (at + i) (number_bytes (8 - i) v)
+pub word_split : (v : ℕ) → to_le_bytes w64 v ≡ word_bytes v
 unfolding number_bytes
-write_turn l at i v b p e =
-    let g : 8 - i ≡ suc (8 - (i + 1)) = omega arith in
-    let h : at + (i + 1) ≡ suc (at + i) = omega arith in
-    rw (g, h, e)
+word_split v =
+    simp div-div-eq-div-mul
 
 -- ---- two bytes
 
-pub short_is : (l : List ℕ) (at b c : ℕ) → b ≡ get_or l at 0 → c ≡ get_or l (at + 1) 0 → b + 256 * c ≡ short_of (drop at l)
+pub short_made : (l : List ℕ) (at : ℕ) → from_le_bytes w16 (get_or l at 0 ∷ get_or l (at + 1) 0 ∷ []) ≡ short_of (drop at l)
 unfolding number_of
-short_is l at b c e f =
-    let g : c ≡ get_or l (suc at) 0 = rw add-one at f in
-    rw (number_step 1 at l, number_step 0 (suc at) l) (omega arith)
+short_made l at = rw (number_step 1 at l, number_step 0 (suc at) l, add-one) (omega arith)
+
+pub short_split : (v : ℕ) → to_le_bytes w16 v ≡ short_bytes v
+unfolding number_bytes
+short_split v = refl

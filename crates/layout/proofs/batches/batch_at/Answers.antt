@@ -1,25 +1,13 @@
--- `layout::batches::batch_at` meets its contract: the requests passed so far are read, the others still none.
-use mathlib.Core.Path.{refl, ◌∙◌}
+-- `layout::batches::batch_at` meets its contract: the count, and each request read at its place.
+use Rattle.std.proofs.Common.{rules}
 use Prim.Native.Nat.{◌+◌}
-use lib.ListN.{replicate}
 use Rattle.deps.specs.Batches.{no_request}
 use Rattle.layout.specs.Batches.{request_at}
-use Rattle.layout.proofs.EachLaws.{fill_turn, fill_end}
+use Rattle.layout.proofs.EachLaws.{made_is}
 use Rattle.layout.proofs.BatchLaws.{batch_is}
-use borrow.Author.Rules.{rules}
 use Rattle.layout.proofs.batches.batch_at.Goals as goal
-
-pub loop-i-preserved : goal.loop-i-preserved
-loop-i-preserved c =
-    let a = c.args in
-    let i = c.loop-i.i in (
-      search rules,
-      c.loop-i.invariant.1,
-      fill_turn request_at 27 4 (a.at + 1) i a.s.now (replicate 4 no_request) refl no_request c.loop-i.invariant.2 c.loop-i-test.true c.request_at-q.ensures,
-    )
 
 pub returns : goal.returns
 returns c =
     let a = c.args in
-    batch_is a.s.now a.at _ _ (c.loop-i.invariant.1 ∙ c.size.ensures)
-    (fill_end request_at 27 4 (a.at + 1) c.loop-i.i a.s.now (replicate 4 no_request) refl c.loop-i.invariant.2 c.loop-i-test.false)
+    batch_is a.s.now a.at _ _ c.from.ensures (made_is _ request_at 27 (a.at + 1) a.s.now _ (λ i y q h. search rules) 4 _ no_request c.from_fn.ensures.items)

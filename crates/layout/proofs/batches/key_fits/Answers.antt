@@ -29,6 +29,6 @@ pub returns : goal.returns
 returns c =
     let a = c.args in
     c.fits.ensures
-    ∙ ap kind_fits c.kind_of-kind.ensures
+    ∙ ap kind_fits c.kind_of.ensures
     ∙ ap (λ (key : ℕ). kind_fits (kind_of (get_or a.s.now (a.at + 16) 0) key 0)) c.short.ensures
     ∙ from_first a.s.now a.at

@@ -6,4 +6,4 @@ use Rattle.layout.proofs.batches.request_at.Goals as goal
 pub returns : goal.returns
 returns c =
     let a = c.args in
-    request_is a.s.now a.at _ _ _ _ _ _ c.word-client.ensures c.word-id.ensures c.short-key.ensures c.word-value.ensures refl c.kind_of-kind.ensures
+    request_is a.s.now a.at _ _ _ _ _ _ c.word.ensures c.word-2.ensures c.short.ensures c.word-3.ensures refl c.kind_of.ensures

@@ -1,8 +1,7 @@
--- `layout::numbers::short` meets its contract: the low byte, and 256 times the next.
-use Rattle.layout.proofs.NumberLaws.{short_is}
+-- `layout::numbers::short` meets its contract: two bytes, low byte first.
+use mathlib.Core.Path.{◌∙◌}
+use Rattle.layout.proofs.NumberLaws.{short_made}
 use Rattle.layout.proofs.numbers.short.Goals as goal
 
 pub returns : goal.returns
-returns c =
-    let a = c.args in
-    short_is a.s.now a.at _ _ c.wide-b.ensures.0 c.wide-c.ensures.0
+returns c = c.from_le_bytes.ensures ∙ short_made c.args.s.now c.args.at
