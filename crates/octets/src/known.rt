@@ -7,12 +7,5 @@ pub fn each_below(s: &[u8], at: usize, count: usize, step: usize, bound: u8) -> 
     requires { at + step * count < length s.now + step }
     ensures { result ≡ each_below count step bound (drop at s.now) }
 {
-    let mut i: usize = 0;
-    while i < count {
-        if bound <= s[at + step * i] {
-            return false;
-        }
-        i += 1;
-    }
-    true
+    (0..count).all(|i| s[at + step * i] < bound)
 }

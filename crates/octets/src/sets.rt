@@ -4,27 +4,20 @@ ghost use Rattle.layout.specs.Numbers.{lay};
 ghost use Rattle.octets.specs.Sets.{set_at, set_bytes};
 
 use deps::sets::DepSet;
+use std::array;
 
 pub fn set_at(s: &[u8], at: usize) -> DepSet
     requires { at + 7 ≤ length s.now }
     ensures { result ≡ set_at (drop at s.now) }
 {
-    let mut d = DepSet::EMPTY;
-    let mut row: usize = 0;
-    while row < 7 {
-        d.cols[row] = s[at + row];
-        row += 1;
+    DepSet {
+        cols: array::from_fn(|row| s[at + row]),
     }
-    d
 }
 
 pub fn put_set(out: &mut [u8], at: usize, d: DepSet)
     requires { at + 7 ≤ length out.old }
     ensures { out.new ≡ lay out.old at (set_bytes d) }
 {
-    let mut row: usize = 0;
-    while row < 7 {
-        out[at + row] = d.cols[row];
-        row += 1;
-    }
+    out[at..at + 7].copy_from_slice(&d.cols);
 }
