@@ -1,7 +1,5 @@
 -- `slot_bytes::slot::put_marks` meets its contract: the marks passed so far are laid.
-use mathlib.Core.Path.{◌≡◌, refl, ap, sym, ◌∙◌}
-use mathlib.Core.List.{[], ◌∷◌}
-use Prim.Native.Nat.{ℕ}
+use mathlib.Core.Path.{◌≡◌, refl, ap, ◌∙◌}
 use native.Mathlib.Omega.{arith}
 use lib.ListN.{length}
 use Rattle.layout.specs.Numbers.{lay}
@@ -14,16 +12,16 @@ use Rattle.slot_bytes.proofs.slot.put_marks.Goals as goal
 
 pub loop-i-init : goal.loop-i-init
 unfolding each_bytes lay
-loop-i-init c = (search rules, refl, refl)
+loop-i-init c = (refl, refl)
 
 pub loop-i-preserved : goal.loop-i-preserved
 loop-i-preserved c =
     let a = c.args in
-    let e = byte_turn (mark_in a.marks) c.loop-i.out a.out.now a.at c.loop-i.i _ (λ k. refl) c.loop-i.invariant.2 (ap (λ (b : ℕ). b ∷ []) (sym c.mark_byte-b.ensures)) in
-    (search rules, ap length e ∙ lay_length _ _ _, e)
+    let e = byte_turn (mark_in a.marks) c.loop-i.out a.out.now a.at c.loop-i.i _ (λ k. refl) c.loop-i.invariant.1 (search rules) in
+    (ap length e ∙ lay_length _ _ _, e)
 
 pub returns : goal.returns
 unfolding marks_bytes
 returns c =
     let e : c.loop-i.i ≡ 7 = omega arith in
-    rw e at c.loop-i.invariant.2
+    rw e at c.loop-i.invariant.1
