@@ -1,5 +1,5 @@
 // What the table has beside its slots: the configuration, a number for each row, columns for each key.
-ghost use Rattle.std.specs.Prelude.{◌≡◌, ◌+◌, ◌≤◌, length, drop};
+ghost use Rattle.std.specs.Prelude.{◌≡◌, ◌+◌, ◌*◌, ◌≤◌, length, drop};
 ghost use Rattle.layout.specs.Numbers.{lay};
 ghost use Rattle.octets.specs.Sets.{rows_at};
 ghost use Rattle.image.specs.Tables.{config_at, keys_at, config_bytes, rows_bytes, keys_bytes};
@@ -7,18 +7,19 @@ ghost use Rattle.image.specs.Tables.{config_at, keys_at, config_bytes, rows_byte
 use base::config::Config;
 use deps::sets::DepSet;
 use keys::columns::Keys;
-use layout::numbers::{byte, put_byte, size};
-use octets::sets::{put_set, set_at};
+use layout::numbers::{byte, put_byte};
+use octets::sets::{cols_at, put_set};
+use std::array;
 
 pub fn config_at(s: &[u8]) -> Config
     requires { 4 ≤ length s.now }
     ensures { result ≡ config_at s.now }
 {
     Config {
-        n: size(s[0]),
-        own: size(s[1]),
-        simple: size(s[2]),
-        sup: size(s[3]),
+        n: usize::from(s[0]),
+        own: usize::from(s[1]),
+        simple: usize::from(s[2]),
+        sup: usize::from(s[3]),
     }
 }
 
@@ -37,25 +38,15 @@ pub fn rows_at(s: &[u8], at: usize) -> [usize; 7]
     requires { at + 7 ≤ length s.now }
     ensures { result ≡ rows_at (drop at s.now) }
 {
-    let mut rows: [usize; 7] = [0; 7];
-    let mut i: usize = 0;
-    while i < 7 {
-        let v = size(s[at + i]);
-        rows[i] = v;
-        i += 1;
-    }
-    rows
+    array::from_fn(|i| usize::from(s[at + i]))
 }
 
 pub fn put_rows(out: &mut [u8], at: usize, rows: [usize; 7])
     requires { at + 7 ≤ length out.old }
     ensures { out.new ≡ lay out.old at (rows_bytes rows) }
 {
-    let mut i: usize = 0;
-    while i < 7 {
-        let b = byte(rows[i]);
-        out[at + i] = b;
-        i += 1;
+    for (i, row) in rows.iter().enumerate() {
+        out[at + i] = byte(*row);
     }
 }
 
@@ -63,27 +54,18 @@ pub fn keys_at(s: &[u8], at: usize) -> Keys
     requires { at + 1792 ≤ length s.now }
     ensures { result ≡ keys_at (drop at s.now) }
 {
-    let mut cols = [[0u8; 7]; 256];
-    let mut key: usize = 0;
-    while key < 256 {
-        let set = set_at(s, at + 7 * key);
-        let own = set.cols;
-        cols[key] = own;
-        key += 1;
-    }
-    Keys::of(cols)
+    let cols = |key: usize|
+        requires { at + 7 * key + 7 ≤ length s.now }
+        ensures { result ≡ rows_at (drop (at + 7 * key) s.entry.now) }
+    { cols_at(s, at + 7 * key) };
+    Keys::of(array::from_fn(cols))
 }
 
 pub fn put_keys(out: &mut [u8], at: usize, keys: Keys)
     requires { at + 1792 ≤ length out.old }
     ensures { out.new ≡ lay out.old at (keys_bytes keys) }
 {
-    let cols = keys.rows();
-    let mut key: usize = 0;
-    while key < 256 {
-        let own = cols[key];
-        let set = DepSet { cols: own };
-        put_set(out, at + 7 * key, set);
-        key += 1;
+    for (key, cols) in keys.rows().iter().enumerate() {
+        put_set(out, at + 7 * key, DepSet { cols: *cols });
     }
 }

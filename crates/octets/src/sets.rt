@@ -1,17 +1,25 @@
 // Dependency sets: seven bytes, per row 0 for nothing or a column and one.
 ghost use Rattle.std.specs.Prelude.{◌≡◌, ◌+◌, ◌≤◌, length, drop};
 ghost use Rattle.layout.specs.Numbers.{lay};
-ghost use Rattle.octets.specs.Sets.{set_at, set_bytes};
+ghost use Rattle.octets.specs.Sets.{rows_at, set_at, set_bytes};
 
 use deps::sets::DepSet;
 use std::array;
+
+// The numbers of a set, row by row.
+pub fn cols_at(s: &[u8], at: usize) -> [u8; 7]
+    requires { at + 7 ≤ length s.now }
+    ensures { result ≡ rows_at (drop at s.now) }
+{
+    array::from_fn(|row| s[at + row])
+}
 
 pub fn set_at(s: &[u8], at: usize) -> DepSet
     requires { at + 7 ≤ length s.now }
     ensures { result ≡ set_at (drop at s.now) }
 {
     DepSet {
-        cols: array::from_fn(|row| s[at + row]),
+        cols: cols_at(s, at),
     }
 }
 

@@ -20,21 +20,21 @@ use Rattle.image.proofs.rows.put_keys.Goals as goal
 
 pub loop-key-init : goal.loop-key-init
 unfolding each_bytes lay
-loop-key-init c = (search rules, refl, refl)
+loop-key-init c = (refl, refl)
 
 pub loop-key-preserved : goal.loop-key-preserved
 loop-key-preserved c =
     let a = c.args in
-    let k = keys_of c.rows-cols.result in
+    let k = keys_of c.rows.result in
     let n : length k.cols ≡ 256 = search rules in
     let d : set_of (get_or k.cols c.loop-key.key []) ≡ columns_of k c.loop-key.key = ap set_of (inside k.cols c.loop-key.key [] (replicate 7 0) (omega arith)) in
     let f = c.put_set.ensures ∙ ap (λ (x : DepSet). lay c.loop-key.out (a.at + 7 * c.loop-key.key) (set_bytes x)) d in
-    let e = lay_turn (columns_in k) 7 (λ key. set_length (columns_of k key)) _ _ _ a.at c.loop-key.key c.loop-key.invariant.2 f in
-    (search rules, ap length e ∙ lay_length _ _ _, e)
+    let e = lay_turn (columns_in k) 7 (λ key. set_length (columns_of k key)) _ _ _ a.at c.loop-key.key c.loop-key.invariant.1 f in
+    (ap length e ∙ lay_length _ _ _, e)
 
 pub returns : goal.returns
 unfolding keys_bytes
 returns c =
     let a = c.args in
     let e : c.loop-key.key ≡ 256 = omega arith in
-    rw e at c.loop-key.invariant.2 ∙ ap (λ (l : List (List ℕ)). lay a.out.now a.at (each_bytes (columns_in (keys_of l)) 256)) c.rows-cols.ensures
+    rw e at c.loop-key.invariant.1 ∙ ap (λ (l : List (List ℕ)). lay a.out.now a.at (each_bytes (columns_in (keys_of l)) 256)) c.rows.ensures

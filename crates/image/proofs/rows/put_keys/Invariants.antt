@@ -1,6 +1,5 @@
 -- `image::rows::put_keys` meets its contract: the keys passed so far are laid.
 use mathlib.Core.Path.{◌≡◌}
-use Prim.Native.Nat.{◌≤◌, ◌-◌}
 use lib.ListN.{length}
 use Rattle.keys.specs.Columns.{keys_of}
 use Rattle.layout.specs.Numbers.{lay}
@@ -9,7 +8,4 @@ use Rattle.image.specs.Tables.{columns_in}
 use Rattle.image.proofs.rows.put_keys.Given as goal
 
 abbrev pub invariant-loop-key : goal.invariant-loop-key
-invariant-loop-key l = (l.key ≤ 256) × (length l.out ≡ length l.initial.out) × (l.out ≡ lay l.initial.out l.at (each_bytes (columns_in (keys_of l.cols)) l.key))
-
-abbrev pub decreases-loop-key : goal.decreases-loop-key
-decreases-loop-key l = 256 - l.key
+invariant-loop-key l = (length l.out ≡ length l.initial.out) × (l.out ≡ lay l.initial.out l.at (each_bytes (columns_in (keys_of l.cols-items)) l.key))

@@ -9,21 +9,20 @@ use Rattle.layout.specs.Each.{each_bytes}
 use Rattle.layout.proofs.Laying.{lay_length}
 use Rattle.layout.proofs.EachLaws.{byte_turn}
 use Rattle.image.specs.Tables.{row_in, rows_bytes}
-use borrow.Author.Rules.{rules}
 use Rattle.image.proofs.rows.put_rows.Goals as goal
 
 pub loop-i-init : goal.loop-i-init
 unfolding each_bytes lay
-loop-i-init c = (search rules, refl, refl)
+loop-i-init c = (refl, refl)
 
 pub loop-i-preserved : goal.loop-i-preserved
 loop-i-preserved c =
     let a = c.args in
-    let e = byte_turn (row_in a.rows) c.loop-i.out a.out.now a.at c.loop-i.i _ (λ k. refl) c.loop-i.invariant.2 (ap (λ (b : ℕ). b ∷ []) (sym c.byte-b.ensures)) in
-    (search rules, ap length e ∙ lay_length _ _ _, e)
+    let e = byte_turn (row_in a.rows) c.loop-i.out a.out.now a.at c.loop-i.i _ (λ k. refl) c.loop-i.invariant.1 (ap (λ (b : ℕ). b ∷ []) (sym c.byte.ensures)) in
+    (ap length e ∙ lay_length _ _ _, e)
 
 pub returns : goal.returns
 unfolding rows_bytes
 returns c =
     let e : c.loop-i.i ≡ 7 = omega arith in
-    rw e at c.loop-i.invariant.2
+    rw e at c.loop-i.invariant.1

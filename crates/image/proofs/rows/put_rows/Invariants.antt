@@ -1,6 +1,5 @@
 -- `image::rows::put_rows` meets its contract: the rows passed so far are laid.
 use mathlib.Core.Path.{◌≡◌}
-use Prim.Native.Nat.{◌≤◌, ◌-◌}
 use lib.ListN.{length}
 use Rattle.layout.specs.Numbers.{lay}
 use Rattle.layout.specs.Each.{each_bytes}
@@ -8,7 +7,4 @@ use Rattle.image.specs.Tables.{row_in}
 use Rattle.image.proofs.rows.put_rows.Given as goal
 
 abbrev pub invariant-loop-i : goal.invariant-loop-i
-invariant-loop-i l = (l.i ≤ 7) × (length l.out ≡ length l.initial.out) × (l.out ≡ lay l.initial.out l.at (each_bytes (row_in l.rows) l.i))
-
-abbrev pub decreases-loop-i : goal.decreases-loop-i
-decreases-loop-i l = 7 - l.i
+invariant-loop-i l = (length l.out ≡ length l.initial.out) × (l.out ≡ lay l.initial.out l.at (each_bytes (row_in l.fn.rows) l.i))

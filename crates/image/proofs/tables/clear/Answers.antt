@@ -35,14 +35,14 @@ slot_no l i q = sym (each_is slot_at 142 224 i (drop 1810 l) blank_slot q ∙ ap
 
 pub loop-i-init : goal.loop-i-init
 unfolding each_bytes lay
-loop-i-init c = (search rules, refl, refl)
+loop-i-init c = (refl, refl)
 
 pub clear_slot-requires-clause-out_value : goal.clear_slot-requires-clause-out_value
 unfolding image_known
 clear_slot-requires-clause-out_value c =
     let l = c.args.image.now in
     let i = c.loop-i.i in
-    ap slot_known (to_come l c.loop-i.image i c.loop-i.invariant.2) ∙ all_at (known_at l) 224 c.requires.image_value i c.loop-i-test.true
+    ap slot_known (to_come l c.loop-i.image i c.loop-i.invariant.1) ∙ all_at (known_at l) 224 c.requires.image_value i c.loop-i-test.true
 
 pub loop-i-preserved : goal.loop-i-preserved
 loop-i-preserved c =
@@ -50,14 +50,14 @@ loop-i-preserved c =
     let i = c.loop-i.i in
     let m = c.loop-i.image in
     let q = c.loop-i-test.true in
-    let same = ap slot_at (to_come l m i c.loop-i.invariant.2) ∙ slot_no l i q in
+    let same = ap slot_at (to_come l m i c.loop-i.invariant.1) ∙ slot_no l i q in
     let f = c.clear_slot.ensures ∙ ap (λ (x : Slot). lay m (1810 + 142 * i) (slot_bytes x)) same in
-    let e = lay_turn (slot_in (slots_at (drop 1810 l))) 142 (λ k. slot_length (get_or (slots_at (drop 1810 l)) k blank_slot)) _ _ _ 1810 i c.loop-i.invariant.2 f in
-    (search rules, ap length e ∙ lay_length _ _ _, e)
+    let e = lay_turn (slot_in (slots_at (drop 1810 l))) 142 (λ k. slot_length (get_or (slots_at (drop 1810 l)) k blank_slot)) _ _ _ 1810 i c.loop-i.invariant.1 f in
+    (ap length e ∙ lay_length _ _ _, e)
 
 pub returns : goal.returns
 unfolding slots_bytes
 returns c =
     let l = c.args.image.now in
     let e : c.loop-i.i ≡ 224 = omega arith in
-    rw e at c.loop-i.invariant.2 ∙ table_again l (λ i. search rules) c.requires.image_len
+    rw e at c.loop-i.invariant.1 ∙ table_again l (λ i. search rules) c.requires.image_len

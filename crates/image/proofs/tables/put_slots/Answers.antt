@@ -9,21 +9,20 @@ use Rattle.layout.proofs.Laying.{lay_length}
 use Rattle.layout.proofs.EachLaws.{lay_turn}
 use Rattle.image.specs.Tables.{slot_in, slots_bytes}
 use Rattle.slot_bytes.proofs.SlotLaws.{slot_length}
-use borrow.Author.Rules.{rules}
 use Rattle.image.proofs.tables.put_slots.Goals as goal
 
 pub loop-i-init : goal.loop-i-init
 unfolding each_bytes lay
-loop-i-init c = (search rules, refl, refl)
+loop-i-init c = (refl, refl)
 
 pub loop-i-preserved : goal.loop-i-preserved
 loop-i-preserved c =
     let a = c.args in
-    let e = lay_turn (slot_in a.slots) 142 (λ k. slot_length (get_or a.slots k blank_slot)) _ _ _ a.at c.loop-i.i c.loop-i.invariant.2 c.put_slot.ensures in
-    (search rules, ap length e ∙ lay_length _ _ _, e)
+    let e = lay_turn (slot_in a.slots.now) 142 (λ k. slot_length (get_or a.slots.now k blank_slot)) _ _ _ a.at c.loop-i.i c.loop-i.invariant.1 c.put_slot.ensures in
+    (ap length e ∙ lay_length _ _ _, e)
 
 pub returns : goal.returns
 unfolding slots_bytes
 returns c =
     let e : c.loop-i.i ≡ 224 = omega arith in
-    rw e at c.loop-i.invariant.2
+    rw e at c.loop-i.invariant.1

@@ -6,4 +6,4 @@ use Rattle.image.proofs.tables.table_at.Goals as goal
 pub returns : goal.returns
 unfolding table_at
 returns c =
-    table_same c.config_at-config.ensures c.slots_at-slots.ensures c.rows_at-lens.ensures c.rows_at-bars.ensures c.keys_at-keys.ensures
+    table_same c.config_at.ensures c.slots_at.ensures c.rows_at.ensures c.rows_at-2.ensures c.keys_at.ensures
