@@ -19,9 +19,9 @@ fn what_byte(what: What) -> u8
         What::Nothing => 0,
         What::Log => 1,
         What::CommitNotice => 2,
-        What::PreAcceptReply { to: _ } => 3,
-        What::AcceptReply { to: _ } => 4,
-        What::ExpPrepareReply { to: _, asked: _ } => 5,
+        What::PreAcceptReply { .. } => 3,
+        What::AcceptReply { .. } => 4,
+        What::ExpPrepareReply { .. } => 5,
         What::NoteToSelf => 6,
     }
 }
@@ -31,13 +31,9 @@ fn peer_of(what: What) -> usize
     ensures { result ≡ peer_of what }
 {
     match what {
-        What::Nothing => 0,
-        What::Log => 0,
-        What::CommitNotice => 0,
-        What::PreAcceptReply { to } => to,
-        What::AcceptReply { to } => to,
-        What::ExpPrepareReply { to, asked: _ } => to,
-        What::NoteToSelf => 0,
+        What::PreAcceptReply { to } | What::AcceptReply { to } | What::ExpPrepareReply { to, .. } =>
+            to,
+        What::Nothing | What::Log | What::CommitNotice | What::NoteToSelf => 0,
     }
 }
 
@@ -46,13 +42,8 @@ fn asked_of(what: What) -> u64
     ensures { result ≡ asked_of what }
 {
     match what {
-        What::Nothing => 0,
-        What::Log => 0,
-        What::CommitNotice => 0,
-        What::PreAcceptReply { to: _ } => 0,
-        What::AcceptReply { to: _ } => 0,
-        What::ExpPrepareReply { to: _, asked } => asked,
-        What::NoteToSelf => 0,
+        What::ExpPrepareReply { asked, .. } => asked,
+        _ => 0,
     }
 }
 
@@ -71,23 +62,17 @@ fn put_record(out: &mut [u8], at: usize, entry: Record)
     requires { at + 145 ≤ length out.old }
     ensures { out.new ≡ lay out.old at (record_bytes entry) }
 {
-    let what = entry.what;
-    let place = entry.at;
-    let status = entry.status;
-    let deps = entry.deps;
-    let batch = entry.batch;
-    put_tags(out, at, what, place, status);
-    put_word(out, at + 5, asked_of(what));
+    put_tags(out, at, entry.what, entry.at, entry.status);
+    put_word(out, at + 5, asked_of(entry.what));
     put_word(out, at + 13, entry.ballot);
-    put_contents(out, at + 21, entry.seq as u64, deps, batch);
+    put_contents(out, at + 21, u64::from(entry.seq), entry.deps, entry.batch);
 }
 
 pub fn put_output(out: &mut [u8], output: Output)
     requires { output_width ≤ length out.old }
     ensures { out.new ≡ lay out.old 0 (output_bytes output) }
 {
-    let first = output.records[0];
-    let second = output.records[1];
+    let [first, second] = output.records;
     put_byte(out, 0, byte(output.count));
     put_record(out, 1, first);
     put_record(out, 146, second);
