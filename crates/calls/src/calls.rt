@@ -7,7 +7,7 @@ ghost use Rattle.output_bytes.specs.Output.{output_width};
 ghost use Rattle.calls.specs.Calls.{settled, on_image, handled_by};
 
 use base::answer::Answer;
-use base::refusals;
+use base::refusals::Refusal;
 use changes::change::Change;
 use changes::view::View;
 use handlers::lead::led;
@@ -27,7 +27,8 @@ use table::place::Place;
 // What is answered where a slice is short, or the image has another length.
 pub const SHORT: u64 = 0;
 
-#[derive(Clone, Copy)]
+// By name and not by a closure: `image_follows` speaks of every handler, and `handled_by` says what each name stands for.
+#[derive(Clone, Copy, PartialEq, Eq, Debug)]
 pub enum Handler {
     PreAccept,
     Accept,
@@ -38,6 +39,7 @@ pub enum Handler {
 }
 
 // known: whether every byte of the event stands for something.
+#[tactic(auto, unfolding(crate::specs::Calls::on_image, crate::specs::Calls::call_long))]
 pub fn call(
     handler: Handler,
     known: bool,
@@ -49,22 +51,14 @@ pub fn call(
     ensures table { image.new ≡ (on_image known (handled_by handler proposal) image.old out.old).image }
     ensures bytes { out.new ≡ (on_image known (handled_by handler proposal) image.old out.old).out }
 {
-    if image.len() != tables::WIDTH {
+    if image.len() != tables::WIDTH || out.len() < output::WIDTH {
         return SHORT;
     }
-    if out.len() < output::WIDTH {
-        return SHORT;
+    if !known || !is_known(image) {
+        return Refusal::OutsideBounds.number();
     }
-    if !known {
-        return refusals::OUTSIDE_BOUNDS;
-    }
-    if !is_known(image) {
-        return refusals::OUTSIDE_BOUNDS;
-    }
-    let message = proposal.message;
-    let at = message.at;
-    let batch = proposal.batch;
-    let view = look_at(image, at, batch);
+    let at = proposal.message.at;
+    let view = look_at(image, at, proposal.batch);
     let change = decide(handler, view, proposal);
     settle_at(change, at, image, out)
 }
@@ -74,15 +68,13 @@ fn decide(handler: Handler, view: View, proposal: Proposal) -> Change
     requires { Seven view }
     ensures { Makes (handled_by handler proposal) view proposal.message.at proposal.batch result }
 {
-    let message = proposal.message;
-    let at = message.at;
     match handler {
         Handler::PreAccept => take(Phase::PreAccept, view, proposal),
         Handler::Accept => take(Phase::Accept, view, proposal),
         Handler::CommitNotice => take(Phase::CommitNotice, view, proposal),
-        Handler::AcceptReply => reply(view, message),
-        Handler::ExpPrepare => answered(view, message),
-        Handler::Lead => led(view, at),
+        Handler::AcceptReply => reply(view, proposal.message),
+        Handler::ExpPrepare => answered(view, proposal.message),
+        Handler::Lead => led(view, proposal.message.at),
     }
 }
 
@@ -96,18 +88,11 @@ pub fn settle_at(change: Change, at: Place, image: &mut [u8], out: &mut [u8]) ->
     ensures table { image.new ≡ (settled (changed (table_at image.old) at change) image.old out.old).image }
     ensures bytes { out.new ≡ (settled (changed (table_at image.old) at change) image.old out.old).out }
 {
-    let answer = change.answer;
-    let number = answer.number();
-    let refused = is_refused(answer);
-    if refused {
-        return number;
+    if !is_refused(change.answer) {
+        apply_at(image, at, change.slot, change.extent);
+        put_output(out, change.output);
     }
-    let slot = change.slot;
-    let extent = change.extent;
-    let output = change.output;
-    apply_at(image, at, slot, extent);
-    put_output(out, output);
-    number
+    change.answer.number()
 }
 
 // The answer's number, with the table and the output written: a refusal writes nothing.
@@ -118,26 +103,15 @@ pub fn settle(outcome: Outcome, image: &mut [u8], out: &mut [u8]) -> u64
     ensures table { image.new ≡ (settled outcome image.old out.old).image }
     ensures bytes { out.new ≡ (settled outcome image.old out.old).out }
 {
-    let answer = outcome.answer;
-    let number = answer.number();
-    if is_refused(answer) {
-        return number;
+    if !is_refused(outcome.answer) {
+        put_table(image, outcome.table);
+        put_output(out, outcome.output);
     }
-    let table = outcome.table;
-    let output = outcome.output;
-    put_table(image, table);
-    put_output(out, output);
-    number
+    outcome.answer.number()
 }
 
 pub fn is_refused(answer: Answer) -> bool
     ensures { result ≡ is_refused answer }
 {
-    match answer {
-        Answer::Done => false,
-        Answer::Ignored => false,
-        Answer::NotYet => false,
-        Answer::Already => false,
-        Answer::Refused { number: _ } => true,
-    }
+    matches!(answer, Answer::Refused { .. })
 }

@@ -8,36 +8,6 @@ use Rattle.in_place.proofs.ViewLaws.{seven_rows}
 use Rattle.base.proofs.Tests.{passed, failed}
 use Rattle.calls.proofs.calls.call.Goals as goal
 
-pub returns-then-image-ne-WIDTH : goal.returns-then-image-ne-WIDTH
-unfolding on_image call_long
-returns-then-image-ne-WIDTH c =
-    let h = ne_eqb _ _ c.if-image-ne-WIDTH.true in
-    record { result = rw h; table = rw h; bytes = rw h }
-
-pub returns-then-out-lt-WIDTH : goal.returns-then-out-lt-WIDTH
-unfolding on_image call_long
-returns-then-out-lt-WIDTH c =
-    let g = eq-eqb _ _ c.if-image-ne-WIDTH.false in
-    let h = lt-leb _ _ c.if-out-lt-WIDTH.true in
-    record { result = rw (g, h); table = rw (g, h); bytes = rw (g, h) }
-
-pub returns-then-not-known : goal.returns-then-not-known
-unfolding on_image call_long
-returns-then-not-known c =
-    let f = eq-eqb _ _ c.if-image-ne-WIDTH.false in
-    let g = le-leb _ _ c.if-out-lt-WIDTH.false in
-    let h = c.if-not-known.true in
-    record { result = rw (f, g, h); table = rw (f, g, h); bytes = rw (f, g, h) }
-
-pub returns-then-not-is_known : goal.returns-then-not-is_known
-unfolding on_image call_long
-returns-then-not-is_known c =
-    let f = eq-eqb _ _ c.if-image-ne-WIDTH.false in
-    let g = le-leb _ _ c.if-out-lt-WIDTH.false in
-    let h = c.if-not-known.false in
-    let i = failed c.is_known.ensures c.if-not-is_known.true in
-    record { result = rw (f, g, h, i); table = rw (f, g, h, i); bytes = rw (f, g, h, i) }
-
 pub decide-change-requires : goal.decide-change-requires
 decide-change-requires c = rw c.look_at-view.ensures (seven_seen _ _ _)
 
