@@ -13,6 +13,7 @@ use outcomes::refusal;
 use table::place::Place;
 use table::table::Table;
 
+#[tactic(auto, using(changes::proofs::ViewLaws::seven_seen))]
 pub fn lead(table: Table, at: Place) -> Outcome
     ensures { result ≡ outcome_of table (lead_slot table at) }
 {

@@ -13,6 +13,7 @@ use outcomes::output::{Output, Record, What};
 use outcomes::refusal;
 use table::table::Table;
 
+#[tactic(auto, using(changes::proofs::ViewLaws::seven_seen))]
 pub fn exp_prepare(table: Table, message: Message) -> Outcome
     ensures { result ≡ outcome_of table (exp_prepare table message) }
 {

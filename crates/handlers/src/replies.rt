@@ -18,6 +18,9 @@ use slots::slot::Slot;
 use table::place::Place;
 use table::table::Table;
 
+// By value a handler is its decision on what it looks at, applied. Three times these two calls, and no function that takes the
+// decision: a closure and the contract of its call would be longer than they are.
+#[tactic(auto, using(changes::proofs::ViewLaws::seven_seen))]
 pub fn accept_reply(table: Table, message: Message) -> Outcome
     ensures { result ≡ outcome_of table (accept_reply table message) }
 {
@@ -55,14 +58,14 @@ fn heeds(slot: Slot, message: Message) -> bool
 fn marked(config: Config, at: Place, slot: Slot) -> Change
     ensures { result ≡ marking config.simple at slot }
 {
-    let marked = Change {
+    let done = Change {
         slot,
         output: Output::NONE,
         answer: Answer::Done,
         extent: Extent::Slot,
     };
     if marks::count(slot.marks) < config.simple {
-        return marked;
+        return done;
     }
     let committed = slot.commit();
     let log = Record::of(What::Log, at, committed);
@@ -70,6 +73,6 @@ fn marked(config: Config, at: Place, slot: Slot) -> Change
     Change {
         slot: committed,
         output: Output::two(log, notice),
-        ..marked
+        ..done
     }
 }

@@ -1,12 +1,11 @@
 // PreAccept, Accept and CommitNotice.
-ghost use Rattle.std.specs.Prelude.{◌≡◌, ◌<◌, ◌≤◌};
-ghost use Rattle.base.specs.Refusals.{sequence_limit};
+ghost use Rattle.std.specs.Prelude.{◌≡◌, ◌<◌};
 ghost use Rattle.outcomes.specs.Outcome.{outcome_of};
 ghost use Rattle.changes.specs.Change.{Makes, Seven};
-ghost use Rattle.proposing.specs.Proposals.{pre_accept, accept, commit_notice, proposed, values_from, raised_from, status_after, stored_for};
+ghost use Rattle.proposing.specs.Proposals.{pre_accept, accept, commit_notice, proposed, values_from, raised_from, status_after, stored_for, values};
 
 use base::answer::Answer;
-use base::refusals::{Refusal, SEQUENCE_LIMIT};
+use base::refusals::Refusal;
 use base::status::Status;
 use changes::change::{Change, Extent};
 use changes::view::{View, look};
@@ -19,7 +18,7 @@ use outcomes::refusal;
 use slots::slot::Slot;
 use table::table::Table;
 
-// Which of the three it is.
+// Which of the three it is: an enum and no closures, since the laws go by its cases (`only_pre_accept_over`).
 #[derive(Clone, Copy)]
 pub enum Phase {
     PreAccept,
@@ -47,6 +46,7 @@ pub struct Values {
     pub deps: DepSet,
 }
 
+// The three entries stay beside what they share: README.md and docs/ENTRIES.md name them.
 pub fn pre_accept(table: Table, proposal: Proposal) -> Outcome
     ensures { result ≡ outcome_of table (pre_accept table proposal) }
 {
@@ -66,6 +66,7 @@ pub fn commit_notice(table: Table, proposal: Proposal) -> Outcome
 }
 
 // A table by value: looked at, decided, changed.
+#[tactic(auto, using(changes::proofs::ViewLaws::seven_seen))]
 fn propose(phase: Phase, table: Table, proposal: Proposal) -> Outcome
     ensures { result ≡ outcome_of table (proposed phase table proposal) }
 {
@@ -88,10 +89,11 @@ pub fn take(phase: Phase, view: View, proposal: Proposal) -> Change
         return Change::ignored(Extent::Nulls);
     }
     let values = values_for(phase, view, proposal);
-    if SEQUENCE_LIMIT < values.seq {
+    // the limit of a sequence is the greatest u32
+    let Ok(seq) = u32::try_from(values.seq) else {
         return Change::refused(Refusal::OverLimit.number());
-    }
-    let stored = stored_for(phase, view.slot, message, values, proposal.batch);
+    };
+    let stored = stored_for(phase, view.slot, message, seq, values.deps, proposal.batch);
     Change {
         slot: stored,
         output: Output::one(Record::of(What::Log, message.at, stored)),
@@ -123,19 +125,19 @@ fn raised(given: Values, mine: DepSet, highest: u32) -> Values
     }
 }
 
-// The slot with the message's ballot, the phase's status and the values; a CommitNotice does not touch the source.
-fn stored_for(phase: Phase, slot: Slot, message: Message, values: Values, batch: Batch) -> Slot
-    requires peer_bound { message.peer < 7 }
-    requires seq_le_sequence_limit { values.seq ≤ sequence_limit }
-    ensures { result ≡ stored_for phase slot message values batch }
+// The slot with the message's ballot, the phase's status and these values; a CommitNotice does not touch the source.
+fn stored_for(
+    phase: Phase,
+    slot: Slot,
+    message: Message,
+    seq: u32,
+    deps: DepSet,
+    batch: Batch,
+) -> Slot
+    requires { message.peer < 7 }
+    ensures { result ≡ stored_for phase slot message (values seq deps) batch }
 {
-    let stored = slot.store(
-        message.ballot,
-        phase.status(),
-        values.seq as u32,
-        values.deps,
-        batch,
-    );
+    let stored = slot.store(message.ballot, phase.status(), seq, deps, batch);
     match phase {
         Phase::PreAccept | Phase::Accept => stored.hear(message.peer),
         Phase::CommitNotice => stored,

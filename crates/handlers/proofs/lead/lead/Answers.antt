@@ -3,11 +3,7 @@ use mathlib.Core.Path.{◌≡◌, sym, ◌∙◌}
 use lib.ListN.{length}
 use borrow.Author.Rules.{rules}
 use Rattle.deps.specs.Batches.{no_op}
-use Rattle.changes.proofs.ViewLaws.{seven_seen}
 use Rattle.handlers.proofs.lead.lead.Goals as goal
-
-pub led-requires : goal.led-requires
-led-requires c = rw c.look_plain.ensures (seven_seen _ _ _)
 
 pub apply-requires : goal.apply-requires
 apply-requires c = (c.led.ensures no_op).inside

@@ -3,11 +3,7 @@ use mathlib.Core.Path.{◌≡◌, sym, ◌∙◌}
 use lib.ListN.{length}
 use borrow.Author.Rules.{rules}
 use Rattle.deps.specs.Batches.{no_op}
-use Rattle.changes.proofs.ViewLaws.{seven_seen}
 use Rattle.handlers.proofs.replies.accept_reply.Goals as goal
-
-pub reply-requires : goal.reply-requires
-reply-requires c = rw c.look_plain.ensures (seven_seen _ _ _)
 
 pub apply-requires : goal.apply-requires
 apply-requires c = (c.reply.ensures no_op).inside
