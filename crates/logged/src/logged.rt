@@ -13,6 +13,9 @@ use rising::committed::committed;
 use table::place::Place;
 use table::table::Table;
 
+// How many entries an order list has to have: one for every slot.
+const ENTRIES: usize = 224;
+
 // What a log event does, and how many slots have run.
 #[derive(Clone, Copy)]
 pub struct LogOutcome {
@@ -30,12 +33,12 @@ impl From<Outcome> for LogOutcome {
 }
 
 // The slot has been logged with this status. The slots run stand in the order list from its first entry on, as 32 * row +
-// column, in the order in which they run.
+// column, in the order in which they run: the bytes that C lends.
 pub fn logged(table: Table, at: Place, status: LogStatus, order: &mut [u8]) -> LogOutcome
     ensures result { result ≡ logged_of table at status (length order.old) }
     ensures list { order.new ≡ logged_order table at status order.old }
 {
-    if order.len() < 224 {
+    if order.len() < ENTRIES {
         return Outcome::refused(table, Refusal::ShortOrder.number()).into();
     }
     let view = look_plain(&table, at);

@@ -55,7 +55,7 @@ fn to_source(reply: Reply, at: Place, slot: Slot) -> Change
 {
     match slot.source.checked_sub(1) {
         None => unchanged(Output::NONE),
-        Some(peer) => put_out(reply.to(peer as usize), at, slot),
+        Some(peer) => put_out(reply.to(usize::from(peer)), at, slot),
     }
 }
 

@@ -15,16 +15,16 @@ use Rattle.logged.proofs.EntryLaws.{entry_refused, entry_replied, entry_committe
 use Rattle.logged.proofs.logged.logged.Goals as goal
 use Rattle.logged.proofs.logged.logged.Goals.{In_default}
 
-pub returns-then-order-lt224 : goal.returns-then-order-lt224
-returns-then-order-lt224 c =
+pub returns-then-order-lt-ENTRIES : goal.returns-then-order-lt-ENTRIES
+returns-then-order-lt-ENTRIES c =
     let a = c.args in
-    let m = entry_refused a.table a.at a.status a.order.now _ (c.number.ensures ∙ sym (short_first a.table a.at _ c.if-order-lt224.true)) (omega arith) _ c.refused.ensures in
+    let m = entry_refused a.table a.at a.status a.order.now _ (c.number.ensures ∙ sym (short_first a.table a.at _ c.if-order-lt-ENTRIES.true)) (omega arith) _ c.refused.ensures in
     record { result = c.into.ensures ∙ m.0; list = m.1 }
 
 pub returns-in-Err : goal.returns-in-Err
 returns-in-Err c =
     let a = c.args in
-    let seen = lead_seen a.table a.at no_op _ (sym c.look_plain-view.ensures) ∙ sym (then_slot a.table a.at (length a.order.now) c.if-order-lt224.false) in
+    let seen = lead_seen a.table a.at no_op _ (sym c.look_plain-view.ensures) ∙ sym (then_slot a.table a.at (length a.order.now) c.if-order-lt-ENTRIES.false) in
     let m = entry_refused a.table a.at a.status a.order.now _ (c.number-in-Err.ensures ∙ c.in-Err.ensures ∙ seen) (omega (arith, number_some c.in-Err.refusal)) _ c.refused-in-Err.ensures in
     record { result = c.into-in-Err.ensures ∙ m.0; list = m.1 }
 
@@ -32,7 +32,7 @@ returns-in-Err c =
 
 module _ (c : In_default) where
   passed : logged_refusal c.args.table c.args.at (length c.args.order.now) ≡ 0
-  passed = then_slot c.args.table c.args.at _ c.if-order-lt224.false ∙ sym (c.in_default.ensures ∙ lead_seen c.args.table c.args.at no_op _ (sym c.look_plain-view.ensures))
+  passed = then_slot c.args.table c.args.at _ c.if-order-lt-ENTRIES.false ∙ sym (c.in_default.ensures ∙ lead_seen c.args.table c.args.at no_op _ (sym c.look_plain-view.ensures))
 
   seven : Seven c.look_plain-view.result
   seven = rw c.look_plain-view.ensures (seven_seen _ _ _)
