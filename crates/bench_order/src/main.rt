@@ -9,30 +9,23 @@ mod shapes; // shapes.rt: the tables
 mod text; // text.rt: what is printed
 
 use attempts::attempt::attempt;
+use shapes::Shape;
 use std::env::FillError;
 use std::io;
 use std::rt::Env;
 use table::place::Place;
 use table::table::Table;
+use text::Answered;
 
 fn main(rt: HostRuntime) -> io::Result<()> {
     let count = arg_count(&rt);
-    if count < 2 {
-        show(&rt, b"one component", shapes::full(shapes::ONE_COMPONENT))?;
-        show(
-            &rt,
-            b"no dependencies but those of the slot asked for",
-            shapes::full(shapes::NO_DEPENDENCIES),
-        )?;
-        show(&rt, b"a chain across the rows", shapes::full(shapes::CHAIN))?;
-        show(
-            &rt,
-            b"one slot over 223 that have run",
-            shapes::full(shapes::ONE_SLOT),
-        )
-    } else {
-        repeat(&rt, shapes::full(digit(&rt)), count - 1)
+    if 1 < count {
+        return repeat(&rt, shapes::full(Shape::from(digit(&rt))), count - 1);
     }
+    for shape in &Shape::ALL {
+        show(&rt, *shape)?;
+    }
+    Ok(())
 }
 
 // How many arguments there are, the program's own name among them: the number of the first that is missing. Asked into one
@@ -48,18 +41,13 @@ fn arg_count(rt: &impl Env) -> usize {
 }
 
 // The slot asked for: the last of the last row.
-fn asked() -> Place {
-    Place { row: 6, col: 31 }
-}
+const ASKED: Place = Place { row: 6, col: 31 };
 
-fn show(rt: &impl Print, what: &[u8], table: Table) -> io::Result<()> {
+fn show(rt: &impl Print, shape: Shape) -> io::Result<()> {
     let mut order = [255u8; 224];
-    let tried = attempt(table, asked(), &mut order);
-    text::word(rt, what)?;
-    text::word(rt, b": ")?;
-    let answer = tried.answer;
-    text::answer(rt, answer)?;
-    text::tried(rt, tried.ran, &order)
+    let tried = attempt(shapes::full(shape), ASKED, &mut order);
+    print!(rt; "{shape}: {}", Answered(tried.answer))?;
+    text::ran(rt, &order, tried.ran)
 }
 
 // The digit that the first argument begins with.
@@ -75,8 +63,7 @@ fn repeat(rt: &impl Print, table: Table, times: usize) -> io::Result<()> {
     let mut order = [255u8; 224];
     let mut ran: usize = 0;
     for _ in 0..times {
-        let tried = attempt(table, asked(), &mut order);
-        ran = tried.ran;
+        ran = attempt(table, ASKED, &mut order).ran;
     }
-    text::tried(rt, ran, &order)
+    text::ran(rt, &order, ran)
 }

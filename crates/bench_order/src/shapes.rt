@@ -6,18 +6,50 @@ use base::status::Status;
 use deps::batches::Batch;
 use deps::sets::DepSet;
 use slots::slot::Slot;
+use std::fmt;
 use table::table::Table;
 
-// The shapes, each by the digit that names it.
-pub(crate) const ONE_COMPONENT: u8 = 49;
+#[derive(Clone, Copy, PartialEq, Eq)]
+pub(crate) enum Shape {
+    OneComponent,
+    NoDependencies,
+    Chain,
+    OneSlot,
+}
 
-pub(crate) const NO_DEPENDENCIES: u8 = 50;
+impl Shape {
+    pub(crate) const ALL: [Shape; 4] = [
+        Shape::OneComponent,
+        Shape::NoDependencies,
+        Shape::Chain,
+        Shape::OneSlot,
+    ];
+}
 
-pub(crate) const CHAIN: u8 = 51;
+// By the digit that names it; any other byte names a chain.
+impl From<u8> for Shape {
+    fn from(digit: u8) -> Shape {
+        match digit {
+            b'1' => Shape::OneComponent,
+            b'2' => Shape::NoDependencies,
+            b'4' => Shape::OneSlot,
+            _ => Shape::Chain,
+        }
+    }
+}
 
-pub(crate) const ONE_SLOT: u8 = 52;
+impl fmt::Display for Shape {
+    fn fmt<W: fmt::Write>(&self, f: &mut fmt::Formatter<W>) -> fmt::Result {
+        f.write_str(match self {
+            Shape::OneComponent => "one component",
+            Shape::NoDependencies => "no dependencies but those of the slot asked for",
+            Shape::Chain => "a chain across the rows",
+            Shape::OneSlot => "one slot over 223 that have run",
+        })
+    }
+}
 
-pub(crate) fn full(shape: u8) -> Table {
+pub(crate) fn full(shape: Shape) -> Table {
     let config = Config {
         n: 7,
         own: 0,
@@ -27,41 +59,35 @@ pub(crate) fn full(shape: u8) -> Table {
     let mut table = Table::empty(config);
     table.lens = [32; 7];
     table.bars = [32; 7];
-    for i in 0..224 {
-        table.slots[i] = slot(shape, i);
+    for (i, slot) in table.slots.iter_mut().enumerate() {
+        *slot = made(shape, i);
     }
     table
 }
 
 // Slot i, with a sequence that is far from its place.
-fn slot(shape: u8, i: usize) -> Slot
+fn made(shape: Shape, i: usize) -> Slot
     requires { i < 224 }
 {
     let seq = (i * 37 % 224) as u32;
-    let deps = set(shape, i);
-    let slot = Slot::NULL.store(0, Status::Committed, seq, deps, Batch::NO_OP);
-    if shape == ONE_SLOT {
-        if i < 223 {
-            return slot.run();
-        }
+    let slot = Slot::NULL.store(0, Status::Committed, seq, set(shape, i), Batch::NO_OP);
+    if shape == Shape::OneSlot && i < 223 {
+        slot.run()
+    } else {
+        slot
     }
-    slot
 }
 
 // In one component every slot names the last of every row; with no dependencies the slot asked for alone does.
-fn set(shape: u8, i: usize) -> DepSet
+fn set(shape: Shape, i: usize) -> DepSet
     requires { i < 224 }
 {
-    if shape == ONE_COMPONENT {
-        return DepSet { cols: [32; 7] };
+    match shape {
+        Shape::OneComponent => DepSet { cols: [32; 7] },
+        Shape::NoDependencies if i < 223 => DepSet::EMPTY,
+        Shape::NoDependencies => DepSet { cols: [32; 7] },
+        Shape::Chain | Shape::OneSlot => link(i),
     }
-    if shape == NO_DEPENDENCIES {
-        if i < 223 {
-            return DepSet::EMPTY;
-        }
-        return DepSet { cols: [32; 7] };
-    }
-    link(i)
 }
 
 // A chain: column after column, and in each row after row.
@@ -69,11 +95,11 @@ fn link(i: usize) -> DepSet
     requires { i < 224 }
 {
     let mut set = DepSet::EMPTY;
-    let col = i % 32;
+    let col = (i % 32) as u8;
     if 31 < i {
-        set.cols[i / 32 - 1] = (col + 1) as u8;
+        set.cols[i / 32 - 1] = col + 1;
     } else {
-        set.cols[6] = col as u8;
+        set.cols[6] = col;
     }
     set
 }

@@ -1,46 +1,38 @@
-// What the program prints.
+// How the program prints what an attempt answers and the slots run.
 use base::answer::Answer;
-use std::io;
+use std::{fmt, io};
 
-pub(crate) fn word(rt: &impl Print, bytes: &[u8]) -> io::Result<()> {
-    rt.write_all(bytes)
-}
+#[derive(Clone, Copy)]
+pub(crate) struct Answered(pub Answer);
 
-pub(crate) fn answer(rt: &impl Print, answer: Answer) -> io::Result<()> {
-    match answer {
-        Answer::Done => word(rt, b"done"),
-        Answer::Ignored => word(rt, b"ignored"),
-        Answer::NotYet => word(rt, b"notyet"),
-        Answer::Already => word(rt, b"already"),
-        Answer::Refused { number } => refused(rt, number),
+impl fmt::Display for Answered {
+    fn fmt<W: fmt::Write>(&self, f: &mut fmt::Formatter<W>) -> fmt::Result {
+        match self.0 {
+            Answer::Done => f.write_str("done"),
+            Answer::Ignored => f.write_str("ignored"),
+            Answer::NotYet => f.write_str("notyet"),
+            Answer::Already => f.write_str("already"),
+            Answer::Refused { number } => write!(f, "refused {number}"),
+        }
     }
-}
-
-fn refused(rt: &impl Print, number: u64) -> io::Result<()> {
-    word(rt, b"refused ")?;
-    rt.print(number)
-}
-
-// How many slots have run, the first of them and the last.
-pub(crate) fn tried(rt: &impl Print, ran: usize, order: &[u8; 224]) -> io::Result<()> {
-    word(rt, b" ")?;
-    rt.print(ran)?;
-    if ran < 1 {
-        return word(rt, b"\n");
-    }
-    if 224 < ran {
-        return word(rt, b"\n");
-    }
-    word(rt, b", first ")?;
-    place(rt, order[0])?;
-    word(rt, b", last ")?;
-    place(rt, order[ran - 1])?;
-    word(rt, b"\n")
 }
 
 // A slot as row.column.
-fn place(rt: &impl Print, entry: u8) -> io::Result<()> {
-    rt.print(entry / 32)?;
-    word(rt, b".")?;
-    rt.print(entry % 32)
+#[derive(Clone, Copy)]
+struct At(u8);
+
+impl fmt::Display for At {
+    fn fmt<W: fmt::Write>(&self, f: &mut fmt::Formatter<W>) -> fmt::Result {
+        write!(f, "{}.{}", self.0 / 32, self.0 % 32)
+    }
+}
+
+// How many slots have run, the first of them and the last.
+pub(crate) fn ran(rt: &impl Print, order: &[u8; 224], count: usize) -> io::Result<()> {
+    let slots = order.get(..count).unwrap_or(&[]);
+    if let (Some(first), Some(last)) = (slots.first(), slots.last()) {
+        println!(rt; " {count}, first {}, last {}", At(*first), At(*last))
+    } else {
+        println!(rt; " {count}")
+    }
 }

@@ -50,8 +50,7 @@ fn read<R: Read>(file: &mut R, room: &mut [u8; MOST]) -> io::Result<usize>
 
 // The end of the text.
 fn run_to(trace: &[u8], text: &mut [u8; ROOM]) -> usize {
-    let ran = run(trace, text);
-    ran.end
+    run(trace, text).end
 }
 
 // Reads what is left, since whoever writes it may wait for that. The turns are counted, so that the loop ends whatever the
@@ -70,13 +69,11 @@ fn read_some<R: Read>(file: &mut R) -> io::Result<usize> {
     file.read(&mut buffer)
 }
 
+// In two functions, since the check runs out of stack on a part of a list that it knows to be as long as ROOM.
 fn print(rt: &impl Print, text: &[u8; ROOM], end: usize) -> io::Result<()> {
     print_first(rt, text, end)
 }
 
 fn print_first(rt: &impl Print, text: &[u8], end: usize) -> io::Result<()> {
-    if end <= text.len() {
-        rt.write_all(&text[..end])?;
-    }
-    Ok(())
+    rt.write_all(text.get(..end).unwrap_or(&[]))
 }

@@ -9,30 +9,20 @@ use std::{fs, io};
 const PATH_ROOM: usize = 4096;
 
 fn main(rt: HostRuntime) -> io::Result<()> {
-    for i in 1..arg_count(&rt) {
-        replay(&rt, i)?;
+    for i in 1..usize::MAX {
+        let mut room = [0u8; PATH_ROOM];
+        match rt.arg(i, &mut room) {
+            Ok(length) => replay(&rt, &room[..length])?,
+            Err(FillError::NotPresent) => break,
+            Err(_) => eprintln!(rt; "trace: the name is too long")?,
+        }
     }
     Ok(())
 }
 
-// How many arguments there are, the program's own name among them: the number of the first that is missing.
-fn arg_count(rt: &impl Env) -> usize {
-    let mut byte = [0u8; 1];
-    for i in 0..usize::MAX {
-        if let Err(FillError::NotPresent) = rt.arg(i, &mut byte) {
-            return i;
-        }
-    }
-    usize::MAX
-}
-
-// The file that an argument names.
-fn replay(rt: &(impl Env + Files + Print + Eprint), i: usize) -> io::Result<()> {
-    let mut room = [0u8; PATH_ROOM];
-    let Ok(length) = rt.arg(i, &mut room) else {
-        return eprintln!(rt; "trace: the name is too long");
-    };
-    let Ok(path) = str::from_utf8(&room[..length]) else {
+// The file of that name.
+fn replay(rt: &(impl Files + Print + Eprint), name: &[u8]) -> io::Result<()> {
+    let Ok(path) = str::from_utf8(name) else {
         return eprintln!(rt; "trace: the name is not UTF-8");
     };
     let mut file = match fs::open(rt, path) {
