@@ -5,12 +5,9 @@ use mathlib.Core.Bool.{true, false}
 use Prim.Native.Nat.{ℕ, ◌<◌, ◌≤◌}
 use lib.ListN.{length}
 use Rattle.base.specs.declared.config.Config.{Config}
-use Rattle.votes.specs.Answer.{decision_of}
 use Rattle.recovering.specs.declared.recovery.Prepare.{Prepare}
 use Rattle.recovering.specs.declared.recovery.Rule.{Rule}
-use Rattle.layout.specs.Numbers.{lay}
-use Rattle.deciding.specs.Answers.{contents_bytes}
-use Rattle.deciding.proofs.DecidingLaws.{kept_length, stays, written, zero_is_short, short_is_zero}
+use Rattle.deciding.proofs.DecidingLaws.{kept_length, stays, Written, written, zero_is_short, short_is_zero}
 use Rattle.choosing.specs.Recovery.{choice_long, choice_decided, choice_code, choice_bytes}
 use Rattle.choosing.proofs.NumberLaws.{choice_numbered}
 
@@ -21,7 +18,7 @@ module _ (rule : Rule) (c : Config) (p : Prepare) (acks votes out : List ℕ) wh
   pub choice_stays : choice_code rule c p acks votes out < 105 → choice_bytes rule c p acks votes out ≡ out
   choice_stays = stays (choice_long acks votes out) true (choice_decided rule c p acks votes) out
 
-  pub choice_written : 105 ≤ choice_code rule c p acks votes out → choice_bytes rule c p acks votes out ≡ lay out 0 (contents_bytes true (decision_of (choice_decided rule c p acks votes)).contents)
+  pub choice_written : 105 ≤ choice_code rule c p acks votes out → Written true (choice_decided rule c p acks votes) out (choice_bytes rule c p acks votes out)
   choice_written = written (choice_long acks votes out) true (choice_decided rule c p acks votes) out (choice_numbered c rule p acks votes)
 
   pub choice_zero : choice_code rule c p acks votes out ≡ 0 → choice_long acks votes out ≡ false

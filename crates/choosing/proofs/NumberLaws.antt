@@ -9,36 +9,38 @@ use Rattle.base.specs.Marks.{count_of}
 use Rattle.base.specs.Refusals.{outside_bounds}
 use Rattle.base.specs.declared.status.Status.{Status}
 use Rattle.base.specs.declared.status.Status.TheVariants.{PreAccepting, Accepting, Committed}
-use Rattle.votes.specs.Answer.{Decided, wait, committed, accepting, pre_accepting, refused}
+use Rattle.std.specs.Prelude.{Option}
+use Rattle.votes.specs.declared.answer.Decision.{Decision}
+use Rattle.votes.specs.declared.answer.Decision.TheVariants as decision
 use Rattle.votes.specs.Holder.{or_else}
 use Rattle.votes.specs.Contents.{no_op_contents}
 use Rattle.refusing.specs.Refusal.{refusal_of}
 use Rattle.recovering.specs.Recovery.{highest_vote, group_by, choice_by, named_fit, counts_of, answer_by}
 use Rattle.votes.specs.declared.contents.Contents.{Contents}
-use Rattle.votes.specs.declared.holder.Holder.{Holder}
+use Rattle.votes.proofs.HolderLaws.{or_else_has}
 use Rattle.recovering.specs.declared.recovery.Counts.{Counts}
 use Rattle.recovering.specs.declared.recovery.Prepare.{Prepare}
 use Rattle.recovering.specs.declared.recovery.Rule.{Rule}
-use Rattle.deciding.proofs.NumberLaws.{either, or_else_lem, unless, at_most_six, Numbered}
+use Rattle.deciding.proofs.NumberLaws.{either, unless, at_most_six, Numbered}
 use Rattle.choosing.specs.Recovery.{votes_known, choice_read, choice_decided}
 
 -- ---- what holds of every answer that a choice gives holds of the choice
 
-module _ (P : Decided → Type 0) (waits : P wait) (commits : (x : Contents) → P (committed x)) (accepts : (x : Contents) → P (accepting x)) (refuses : (k : ℕ) → 1 ≤ k → k ≤ 6 → P (refused k)) (c : Config) (starts : (x : Contents) → P (pre_accepting x)) where
+module _ (P : Decision → Type 0) (waits : P decision.Wait) (commits : (x : Contents) → P (decision.Committed x)) (accepts : (x : Contents) → P (decision.Accepting x)) (refuses : (k : ℕ) → 1 ≤ k → k ≤ 6 → P (decision.Refused k)) (c : Config) (starts : (x : Contents) → P (decision.PreAccepting x)) where
   choice_is : (k : Counts) (p : Prepare) (acks voted : List Bool) (statuses : List Status) (entries : List Contents) → P (choice_by k c p acks voted statuses entries)
   unfolding choice_by
   choice_is k p acks voted statuses entries =
       let group = group_by k p voted statuses entries in
-      let by : Status → Holder = λ s. highest_vote s voted statuses in
-      let last = or_else (by PreAccepting) entries pre_accepting (pre_accepting no_op_contents) in
-      let third = or_else group entries accepting last in
-      let second = or_else (by Accepting) entries accepting third in
-      let first = or_else (by Committed) entries committed second in
-      either P (ltb (count_of acks) c.simple) wait first waits
-      (or_else_lem P (by Committed) entries committed second commits
-      (or_else_lem P (by Accepting) entries accepting third accepts
-      (or_else_lem P group entries accepting last accepts
-      (or_else_lem P (by PreAccepting) entries pre_accepting (pre_accepting no_op_contents) starts (starts _)))))
+      let by : Status → Option ℕ = λ s. highest_vote s voted statuses in
+      let last = or_else (by PreAccepting) entries decision.PreAccepting (decision.PreAccepting no_op_contents) in
+      let third = or_else group entries decision.Accepting last in
+      let second = or_else (by Accepting) entries decision.Accepting third in
+      let first = or_else (by Committed) entries decision.Committed second in
+      either P (ltb (count_of acks) c.simple) decision.Wait first waits
+      (or_else_has P (by Committed) entries decision.Committed second commits
+      (or_else_has P (by Accepting) entries decision.Accepting third accepts
+      (or_else_has P group entries decision.Accepting last accepts
+      (or_else_has P (by PreAccepting) entries decision.PreAccepting (decision.PreAccepting no_op_contents) starts (starts _)))))
 
   choice_answer_is : (rule : Rule) (p : Prepare) (acks voted : List Bool) (statuses : List Status) (entries : List Contents) → P (answer_by rule c p acks voted statuses entries)
   unfolding answer_by
@@ -50,7 +52,7 @@ module _ (P : Decided → Type 0) (waits : P wait) (commits : (x : Contents) →
   pub choice_every : (rule : Rule) (p : Prepare) (acks votes : List ℕ) → P (choice_decided rule c p acks votes)
   unfolding choice_decided
   choice_every rule p acks votes =
-      either P (votes_known acks votes) (choice_read rule c p acks votes) (refused outside_bounds) (choice_answer_is _ _ _ _ _ _) (refuses 1 (omega arith) (omega arith))
+      either P (votes_known acks votes) (choice_read rule c p acks votes) (decision.Refused outside_bounds) (choice_answer_is _ _ _ _ _ _) (refuses 1 (omega arith) (omega arith))
 
 -- ---- the numbers
 

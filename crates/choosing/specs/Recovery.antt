@@ -2,7 +2,7 @@
 use Rattle.std.specs.Prelude.{List, Bool, true, ◌&&◌, ℕ, ◌+◌, ◌*◌, drop}
 use Rattle.base.specs.Below.{all_below}
 use Rattle.base.specs.declared.config.Config.{Config}
-use Rattle.votes.specs.Answer.{Decided}
+use Rattle.votes.specs.declared.answer.Decision.{Decision}
 use Rattle.recovering.specs.Recovery.{choice_answer}
 use Rattle.recovering.specs.declared.recovery.Prepare.{Prepare}
 use Rattle.recovering.specs.declared.recovery.Rule.{Rule}
@@ -31,11 +31,11 @@ abbrev pub votes_known : List ℕ → List ℕ → Bool
 votes_known acks votes = marks_known acks && (marks_known votes && (each_below 7 1 5 (drop 7 votes) && kinds_known votes))
 
 -- the votes: 7 marks, 7 statuses, 7 sequences of 8 bytes, 7 dependency sets of 7, 7 batches of 109
-abbrev pub choice_read : Rule → Config → Prepare → List ℕ → List ℕ → Decided
+abbrev pub choice_read : Rule → Config → Prepare → List ℕ → List ℕ → Decision
 choice_read rule c p acks votes =
     choice_answer rule c p (marks_at acks) (marks_at votes) (statuses_at (drop 7 votes)) (words_at (drop 14 votes)) (sets_at (drop 70 votes)) (batches_at (drop 119 votes))
 
-unfoldable pub choice_decided : Rule → Config → Prepare → List ℕ → List ℕ → Decided
+unfoldable pub choice_decided : Rule → Config → Prepare → List ℕ → List ℕ → Decision
 choice_decided rule c p acks votes = if_known (votes_known acks votes) (choice_read rule c p acks votes)
 
 abbrev pub choice_code : Rule → Config → Prepare → List ℕ → List ℕ → List ℕ → ℕ

@@ -1,10 +1,8 @@
--- The contents laid in out's front, piece by piece, and what a decision writes.
-use mathlib.Core.Path.{◌≡◌, ap, ◌∙◌}
+-- The contents laid in out's front, piece by piece.
+use mathlib.Core.Path.{◌≡◌}
 use mathlib.Core.List.{List, ◌++◌, append-nil}
 use mathlib.Core.Bool.{Bool, true, false}
 use Prim.Native.Nat.{ℕ}
-use Rattle.votes.specs.Answer.{Decided, decision_of}
-use Rattle.votes.specs.declared.answer.Decision.{Decision}
 use Rattle.votes.specs.declared.contents.Contents.{Contents}
 use Rattle.layout.specs.Numbers.{word_bytes, lay}
 use Rattle.layout.specs.Batches.{batch_bytes}
@@ -13,8 +11,7 @@ use Rattle.layout.proofs.Laying.{Laid, next}
 use Rattle.layout.proofs.NumberLaws.{word_length}
 use Rattle.layout.proofs.BatchLaws.{batch_length}
 use Rattle.octets.proofs.SetLaws.{set_length}
-use Rattle.deciding.specs.Codes.{step_code, code_of}
-use Rattle.deciding.specs.Answers.{contents_bytes, out_with, out_of}
+use Rattle.deciding.specs.Answers.{contents_bytes}
 
 abbrev pub Front : List ℕ → List ℕ → Contents → Type 0
 Front l o c = Laid l o 0 (word_bytes c.seq ++ set_bytes c.deps) 15
@@ -30,12 +27,3 @@ whole_laid o l k c whole e p f = rw e (next k (batch_bytes c.batch) 109 p f (bat
 pub part_laid : (o l : List ℕ) (c : Contents) (whole : Bool) → whole ≡ false → Front l o c → l ≡ lay o 0 (contents_bytes whole c)
 unfolding contents_bytes
 part_laid o l c whole e p = rw (e, append-nil) p.is
-
--- the answer to what is decided, from the value that says so
-pub code_told : (n : ℕ) (x : Decision) (d : Decided) → n ≡ step_code x.step → x ≡ decision_of d → n ≡ code_of d
-unfolding code_of
-code_told n x d e f = e ∙ ap (λ (y : Decision). step_code y.step) f
-
-pub bytes_told : (l o : List ℕ) (whole : Bool) (x : Decision) (d : Decided) → l ≡ out_with whole x o → x ≡ decision_of d → l ≡ out_of whole d o
-unfolding out_of
-bytes_told l o whole x d e f = e ∙ ap (λ (y : Decision). out_with whole y o) f

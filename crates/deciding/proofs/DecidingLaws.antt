@@ -6,7 +6,11 @@ use Prim.Native.Nat.{ℕ, ◌<◌, ◌≤◌}
 use native.Mathlib.Omega.{arith}
 use lib.ListN.{length}
 use Rattle.base.specs.declared.config.Config.{Config}
-use Rattle.votes.specs.Answer.{Decided, wait, committed, accepting, pre_accepting, refused, decision_of}
+use Rattle.std.specs.Prelude.{Some}
+use Rattle.votes.specs.Answer.{goes_on_with}
+use Rattle.votes.specs.declared.contents.Contents.{Contents}
+use Rattle.votes.specs.declared.answer.Decision.{Decision}
+use Rattle.votes.specs.declared.answer.Decision.TheVariants.{Wait, Committed, Accepting, PreAccepting, Refused}
 use Rattle.layout.specs.Numbers.{lay}
 use Rattle.layout.proofs.Laying.{lay_length}
 use Rattle.deciding.specs.Codes.{code_of}
@@ -16,38 +20,44 @@ use Rattle.deciding.proofs.NumberLaws.{Numbered, some_number, fast_numbered, fas
 
 -- ---- of any decision on slices that are long enough or not
 
-pub kept_length : (long whole : Bool) (d : Decided) (out : List ℕ) → length (bytes_if long whole d out) ≡ length out
+pub kept_length : (long whole : Bool) (d : Decision) (out : List ℕ) → length (bytes_if long whole d out) ≡ length out
 unfolding out_of
 kept_length false whole d out = refl
-kept_length true whole wait out = refl
-kept_length true whole (committed c) out = lay_length _ _ _
-kept_length true whole (accepting c) out = lay_length _ _ _
-kept_length true whole (pre_accepting c) out = lay_length _ _ _
-kept_length true whole (refused k) out = refl
+kept_length true whole Wait out = refl
+kept_length true whole (Committed c) out = lay_length _ _ _
+kept_length true whole (Accepting c) out = lay_length _ _ _
+kept_length true whole (PreAccepting c) out = lay_length _ _ _
+kept_length true whole (Refused k) out = refl
 
-pub stays : (long whole : Bool) (d : Decided) (out : List ℕ) → code_if long d < 105 → bytes_if long whole d out ≡ out
+pub stays : (long whole : Bool) (d : Decision) (out : List ℕ) → code_if long d < 105 → bytes_if long whole d out ≡ out
 unfolding out_of code_of
 stays false whole d out h = refl
-stays true whole wait out h = refl
-stays true whole (committed c) out h = absurd (omega arith)
-stays true whole (accepting c) out h = absurd (omega arith)
-stays true whole (pre_accepting c) out h = absurd (omega arith)
-stays true whole (refused k) out h = refl
+stays true whole Wait out h = refl
+stays true whole (Committed c) out h = absurd (omega arith)
+stays true whole (Accepting c) out h = absurd (omega arith)
+stays true whole (PreAccepting c) out h = absurd (omega arith)
+stays true whole (Refused k) out h = refl
 
-pub written : (long whole : Bool) (d : Decided) (out : List ℕ) → Numbered d → 105 ≤ code_if long d → bytes_if long whole d out ≡ lay out 0 (contents_bytes whole (decision_of d).contents)
+-- what is written is what there is to go on with
+pub record Written (whole : Bool) (d : Decision) (out new : List ℕ) : Type 0 where
+  pub contents : Contents
+  pub there : goes_on_with d ≡ Some contents
+  pub laid : new ≡ lay out 0 (contents_bytes whole contents)
+
+pub written : (long whole : Bool) (d : Decision) (out : List ℕ) → Numbered d → 105 ≤ code_if long d → Written whole d out (bytes_if long whole d out)
 unfolding out_of code_of Numbered
 written false whole d out n h = absurd (omega arith)
-written true whole wait out n h = absurd (omega arith)
-written true whole (committed c) out n h = refl
-written true whole (accepting c) out n h = refl
-written true whole (pre_accepting c) out n h = refl
-written true whole (refused k) out n h = absurd (omega (arith, n.1))
+written true whole Wait out n h = absurd (omega arith)
+written true whole (Committed c) out n h = record { contents = c; there = refl; laid = refl }
+written true whole (Accepting c) out n h = record { contents = c; there = refl; laid = refl }
+written true whole (PreAccepting c) out n h = record { contents = c; there = refl; laid = refl }
+written true whole (Refused k) out n h = absurd (omega (arith, n.1))
 
-pub zero_is_short : (long : Bool) (d : Decided) → Numbered d → code_if long d ≡ 0 → long ≡ false
+pub zero_is_short : (long : Bool) (d : Decision) → Numbered d → code_if long d ≡ 0 → long ≡ false
 zero_is_short false d n e = refl
 zero_is_short true d n e = absurd (omega (arith, some_number d n, e))
 
-pub short_is_zero : (long : Bool) (d : Decided) → long ≡ false → code_if long d ≡ 0
+pub short_is_zero : (long : Bool) (d : Decision) → long ≡ false → code_if long d ≡ 0
 short_is_zero long d e = rw e
 
 -- ---- the fast decision
@@ -59,7 +69,7 @@ module _ (c : Config) (avoided : ℕ) (replies silent out : List ℕ) where
   pub fast_stays : fast_code c avoided replies silent out < 105 → fast_bytes c avoided replies silent out ≡ out
   fast_stays = stays (fast_long replies silent out) false (fast_decided c avoided replies silent) out
 
-  pub fast_written : 105 ≤ fast_code c avoided replies silent out → fast_bytes c avoided replies silent out ≡ lay out 0 (contents_bytes false (decision_of (fast_decided c avoided replies silent)).contents)
+  pub fast_written : 105 ≤ fast_code c avoided replies silent out → Written false (fast_decided c avoided replies silent) out (fast_bytes c avoided replies silent out)
   fast_written = written (fast_long replies silent out) false (fast_decided c avoided replies silent) out (fast_numbered c avoided replies silent)
 
   pub fast_no_pre_accept : fast_code c avoided replies silent out ≤ 106

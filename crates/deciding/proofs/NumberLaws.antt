@@ -8,39 +8,34 @@ use Rattle.base.specs.declared.config.Config.{Config}
 use Rattle.base.specs.Config.{config_fits}
 use Rattle.base.specs.Marks.{count_of}
 use Rattle.base.specs.Refusals.{outside_bounds, no_replica, bad_dependency, bad_batch, over_limit}
-use Rattle.votes.specs.Answer.{Decided, wait, committed, accepting, pre_accepting, refused, unless_refused}
+use Rattle.votes.specs.Answer.{unless_refused}
+use Rattle.votes.specs.declared.answer.Decision.{Decision}
+use Rattle.votes.specs.declared.answer.Decision.TheVariants.{Wait, Committed, Accepting, PreAccepting, Refused}
 use Rattle.votes.specs.Holder.{or_else}
 use Rattle.votes.specs.Identical.{first_enough}
-use Rattle.refusing.specs.Refusal.{both_fit, parts_fit, refusal_of}
+use Rattle.refusing.specs.Refusal.{both_fit, deps_fit, batch_fit, sequence_fit, parts_fit, refusal_of}
 use Rattle.decisions.specs.Fast.{joined, possible, fast_decision, replies_of, fast_answer}
 use Rattle.votes.specs.declared.contents.Contents.{Contents}
-use Rattle.votes.specs.declared.holder.Holder.{Holder}
-use Rattle.votes.specs.declared.holder.Holder.TheVariants.{Nobody, Replica}
-use Rattle.refusing.specs.declared.refusal.Part.{Part}
-use Rattle.refusing.specs.declared.refusal.Part.TheVariants.{Deps, Batch, Sequence}
+use Rattle.votes.proofs.HolderLaws.{or_else_has}
 use Rattle.deciding.specs.Codes.{code_of}
 use Rattle.deciding.specs.Fast.{fast_known, fast_read, fast_decided}
 
--- ---- what a test, a holder and a refusal keep
+-- ---- what a test and a refusal keep
 
 pub either : {A : Type 0} (P : A → Type 0) (b : Bool) (x y : A) → P x → P y → P (cond b x y)
 either P true x y h k = h
 either P false x y h k = k
 
-pub or_else_lem : (P : Decided → Type 0) (h : Holder) (entries : List Contents) (decide : Contents → Decided) (next : Decided) → ((x : Contents) → P (decide x)) → P next → P (or_else h entries decide next)
-or_else_lem P Nobody entries decide next f g = g
-or_else_lem P (Replica r) entries decide next f g = f _
-
-pub unless : (P : Decided → Type 0) (k : ℕ) (d : Decided) → k ≤ 6 → ((i : ℕ) → 1 ≤ i → i ≤ 6 → P (refused i)) → P d → P (unless_refused k d)
+pub unless : (P : Decision → Type 0) (k : ℕ) (d : Decision) → k ≤ 6 → ((i : ℕ) → 1 ≤ i → i ≤ 6 → P (Refused i)) → P d → P (unless_refused k d)
 unless P zero d l f h = h
 unless P (suc k) d l f h = f (suc k) (omega arith) l
 
 pub at_most_six : (c : Config) (named : Bool) (listed : List Bool) (entries : List Contents) → refusal_of c named listed entries ≤ 6
 unfolding refusal_of
-at_most_six c named listed entries = go (config_fits c) named (fits Deps) (fits Batch) (fits Sequence)
+at_most_six c named listed entries = go (config_fits c) named (fits (deps_fit c.n)) (fits batch_fit) (fits sequence_fit)
   where
-    fits : Part → Bool
-    fits part = parts_fit part c.n listed entries
+    fits : (Contents → Bool) → Bool
+    fits part_fits = parts_fit part_fits listed entries
 
     go : (a b d e f : Bool) → cond a (cond b (cond d (cond e (cond f 0 over_limit) bad_batch) bad_dependency) no_replica) outside_bounds ≤ 6
     go false b d e f = omega arith
@@ -52,18 +47,18 @@ at_most_six c named listed entries = go (config_fits c) named (fits Deps) (fits 
 
 -- ---- what holds of every answer that a decision gives holds of the decision
 
-module _ (P : Decided → Type 0) (waits : P wait) (commits : (x : Contents) → P (committed x)) (accepts : (x : Contents) → P (accepting x)) (refuses : (k : ℕ) → 1 ≤ k → k ≤ 6 → P (refused k)) (c : Config) where
+module _ (P : Decision → Type 0) (waits : P Wait) (commits : (x : Contents) → P (Committed x)) (accepts : (x : Contents) → P (Accepting x)) (refuses : (k : ℕ) → 1 ≤ k → k ≤ 6 → P (Refused k)) (c : Config) where
   fast_is : (avoided : Bool) (replied : List Bool) (entries : List Contents) (silent : List Bool) → P (fast_decision c avoided replied entries silent)
   unfolding fast_decision
   fast_is avoided replied entries silent =
-      let slow = accepting (joined replied entries) in
-      let rest = cond (ltb (possible c replied entries silent) c.sup) slow wait in
+      let slow = Accepting (joined replied entries) in
+      let rest = cond (ltb (possible c replied entries silent) c.sup) slow Wait in
       let first = first_enough entries replied c.sup in
-      let fast = or_else first entries committed rest in
-      either P (ltb (count_of replied) c.simple) wait (cond avoided slow fast) waits
+      let fast = or_else first entries Committed rest in
+      either P (ltb (count_of replied) c.simple) Wait (cond avoided slow fast) waits
       (either P avoided slow fast (accepts _)
-      (or_else_lem P first entries committed rest commits
-      (either P (ltb (possible c replied entries silent) c.sup) slow wait (accepts _) waits)))
+      (or_else_has P first entries Committed rest commits
+      (either P (ltb (possible c replied entries silent) c.sup) slow Wait (accepts _) waits)))
 
   fast_answer_is : (avoided : Bool) (replied : List Bool) (seqs : List ℕ) (deps : List (List ℕ)) (silent : List Bool) → P (fast_answer c avoided replied seqs deps silent)
   unfolding fast_answer
@@ -75,24 +70,24 @@ module _ (P : Decided → Type 0) (waits : P wait) (commits : (x : Contents) →
   pub fast_every : (avoided : ℕ) (replies silent : List ℕ) → P (fast_decided c avoided replies silent)
   unfolding fast_decided
   fast_every avoided replies silent =
-      either P (fast_known avoided replies silent) (fast_read c avoided replies silent) (refused outside_bounds) (fast_answer_is _ _ _ _ _) (refuses 1 (omega arith) (omega arith))
+      either P (fast_known avoided replies silent) (fast_read c avoided replies silent) (Refused outside_bounds) (fast_answer_is _ _ _ _ _) (refuses 1 (omega arith) (omega arith))
 
 -- ---- the numbers
 
-unfoldable pub Numbered : Decided → Type 0
-Numbered wait = Unit
-Numbered (committed x) = Unit
-Numbered (accepting x) = Unit
-Numbered (pre_accepting x) = Unit
-Numbered (refused k) = (1 ≤ k) × (k ≤ 6)
+unfoldable pub Numbered : Decision → Type 0
+Numbered Wait = Unit
+Numbered (Committed x) = Unit
+Numbered (Accepting x) = Unit
+Numbered (PreAccepting x) = Unit
+Numbered (Refused k) = (1 ≤ k) × (k ≤ 6)
 
-pub some_number : (d : Decided) → Numbered d → 1 ≤ code_of d
+pub some_number : (d : Decision) → Numbered d → 1 ≤ code_of d
 unfolding Numbered code_of
-some_number wait h = omega arith
-some_number (committed x) h = omega arith
-some_number (accepting x) h = omega arith
-some_number (pre_accepting x) h = omega arith
-some_number (refused k) h = h.0
+some_number Wait h = omega arith
+some_number (Committed x) h = omega arith
+some_number (Accepting x) h = omega arith
+some_number (PreAccepting x) h = omega arith
+some_number (Refused k) h = h.0
 
 pub fast_numbered : (c : Config) (avoided : ℕ) (replies silent : List ℕ) → Numbered (fast_decided c avoided replies silent)
 unfolding Numbered

@@ -1,7 +1,7 @@
 -- The fast decision on slices.
 use Rattle.std.specs.Prelude.{List, Bool, false, ◌&&◌, ℕ, ltb, drop}
 use Rattle.base.specs.declared.config.Config.{Config}
-use Rattle.votes.specs.Answer.{Decided}
+use Rattle.votes.specs.declared.answer.Decision.{Decision}
 use Rattle.decisions.specs.Fast.{fast_answer}
 use Rattle.octets.specs.Marks.{mark_of, marks_at}
 use Rattle.calls.specs.Calls.{enough}
@@ -17,11 +17,11 @@ abbrev pub fast_known : ℕ → List ℕ → List ℕ → Bool
 fast_known avoided replies silent = ltb avoided 2 && (marks_known replies && marks_known silent)
 
 -- the replies: 7 marks, 7 sequences of 8 bytes, 7 dependency sets of 7
-abbrev pub fast_read : Config → ℕ → List ℕ → List ℕ → Decided
+abbrev pub fast_read : Config → ℕ → List ℕ → List ℕ → Decision
 fast_read c avoided replies silent =
     fast_answer c (mark_of avoided) (marks_at replies) (words_at (drop 7 replies)) (sets_at (drop 63 replies)) (marks_at silent)
 
-unfoldable pub fast_decided : Config → ℕ → List ℕ → List ℕ → Decided
+unfoldable pub fast_decided : Config → ℕ → List ℕ → List ℕ → Decision
 fast_decided c avoided replies silent = if_known (fast_known avoided replies silent) (fast_read c avoided replies silent)
 
 abbrev pub fast_code : Config → ℕ → List ℕ → List ℕ → List ℕ → ℕ

@@ -1,6 +1,5 @@
 // The fast decision on the replies to a PreAccept.
 ghost use Rattle.std.specs.Prelude.{◌≡◌, ◌≤◌, length};
-ghost use Rattle.votes.specs.Answer.{decision_of};
 ghost use Rattle.deciding.specs.Fast.{fast_known, fast_decided, fast_code, fast_bytes};
 
 use super::answers::{answered, unknown};
@@ -17,13 +16,7 @@ pub fn answer(config: Config, avoided: u64, replies: &[u8], silent: &[u8], out: 
     ensures result { result ≡ fast_code config avoided replies.now silent.now out.old }
     ensures bytes { out.new ≡ fast_bytes config avoided replies.now silent.now out.old }
 {
-    if replies.len() < 112 {
-        return SHORT;
-    }
-    if silent.len() < 7 {
-        return SHORT;
-    }
-    if out.len() < 15 {
+    if replies.len() < 112 || silent.len() < 7 || out.len() < 15 {
         return SHORT;
     }
     answered(decided(config, avoided, replies, silent), false, out)
@@ -33,7 +26,7 @@ pub fn answer(config: Config, avoided: u64, replies: &[u8], silent: &[u8], out: 
 fn decided(config: Config, avoided: u64, replies: &[u8], silent: &[u8]) -> Decision
     requires in_bounds { 112 ≤ length replies.now }
     requires in_bounds_2 { 7 ≤ length silent.now }
-    ensures { result ≡ decision_of (fast_decided config avoided replies.now silent.now) }
+    ensures { result ≡ fast_decided config avoided replies.now silent.now }
 {
     if !is_known(avoided, replies, silent) {
         return unknown();
@@ -54,11 +47,5 @@ fn is_known(avoided: u64, replies: &[u8], silent: &[u8]) -> bool
     requires in_bounds_2 { 7 ≤ length silent.now }
     ensures { result ≡ fast_known avoided replies.now silent.now }
 {
-    if 1 < avoided {
-        return false;
-    }
-    if !marks_known(replies) {
-        return false;
-    }
-    marks_known(silent)
+    avoided < 2 && marks_known(replies) && marks_known(silent)
 }

@@ -13,15 +13,15 @@ use Rattle.base.specs.declared.config.Config.{Config}
 use Rattle.base.proofs.Loops.{both_true}
 use Rattle.base.proofs.MarkLaws.{marks_fit_each, two_counts}
 use Rattle.votes.specs.Contents.{none, said_by, join_of}
-use Rattle.votes.specs.Answer.{Decided, wait, committed, accepting, refused}
+use Rattle.std.specs.Prelude.{Option, None, Some}
+use Rattle.votes.specs.declared.answer.Decision.{Decision}
+use Rattle.votes.specs.declared.answer.Decision.TheVariants.{Wait, Committed, Accepting, Refused}
 use Rattle.votes.specs.Holder.{lowest_below, or_else}
 use Rattle.votes.specs.Identical.{occurrences, has_enough, first_enough}
 use Rattle.refusing.specs.Refusal.{both_fit, refusal_of}
 use Rattle.decisions.specs.Fast.{joined_below, joined, gone_at, gone_count, possible, fast_decision, replies_of, fast_answer}
 use Rattle.votes.specs.declared.contents.Contents.{Contents}
-use Rattle.votes.specs.declared.holder.Holder.{Holder}
-use Rattle.votes.specs.declared.holder.Holder.TheVariants.{Nobody, Replica}
-use Rattle.votes.proofs.AnswerLaws.{apart, same_committed, same_accepting, refused_by}
+use Rattle.votes.proofs.AnswerLaws.{refused_by}
 use Rattle.votes.proofs.HolderLaws.{Lowest, lowest_is, is_lowest, lowest_nobody, all_fail_lowest}
 
 -- ---- the union of the dependencies and the greatest sequence, turn by turn
@@ -57,17 +57,17 @@ heard_at_most n own replied silent f g =
 -- ---- each answer
 
 module _ (c : Config) (avoided : Bool) (replied : List Bool) (entries : List Contents) (silent : List Bool) where
-  abbrev pub answer : Decided
+  abbrev pub answer : Decision
   answer = fast_decision c avoided replied entries silent
 
-  abbrev pub slow_path : Decided
-  slow_path = accepting (joined replied entries)
+  abbrev pub slow_path : Decision
+  slow_path = Accepting (joined replied entries)
 
   -- where nobody has enough
-  abbrev pub later : Decided
-  later = cond (ltb (possible c replied entries silent) c.sup) slow_path wait
+  abbrev pub later : Decision
+  later = cond (ltb (possible c replied entries silent) c.sup) slow_path Wait
 
-  pub fast_few : count_of replied < c.simple → answer ≡ wait
+  pub fast_few : count_of replied < c.simple → answer ≡ Wait
   unfolding fast_decision
   fast_few h = rw (lt-ltb (count_of replied) c.simple h)
 
@@ -75,18 +75,18 @@ module _ (c : Config) (avoided : Bool) (replied : List Bool) (entries : List Con
   unfolding fast_decision
   fast_avoided h a = rw (le-ltb (count_of replied) c.simple h, a)
 
-  pub fast_open : c.simple ≤ count_of replied → avoided ≡ false → answer ≡ or_else (first_enough entries replied c.sup) entries committed later
+  pub fast_open : c.simple ≤ count_of replied → avoided ≡ false → answer ≡ or_else (first_enough entries replied c.sup) entries Committed later
   unfolding fast_decision
   fast_open h a = rw (le-ltb (count_of replied) c.simple h, a)
 
   -- as whoever is first with enough decides
-  open_by : c.simple ≤ count_of replied → avoided ≡ false → (h : Holder) → first_enough entries replied c.sup ≡ h → answer ≡ or_else h entries committed later
-  open_by l a h e = fast_open l a ∙ ap (λ (x : Holder). or_else x entries committed later) e
+  open_by : c.simple ≤ count_of replied → avoided ≡ false → (h : Option ℕ) → first_enough entries replied c.sup ≡ h → answer ≡ or_else h entries Committed later
+  open_by l a h e = fast_open l a ∙ ap (λ (x : Option ℕ). or_else x entries Committed later) e
 
   pub later_slow : possible c replied entries silent < c.sup → later ≡ slow_path
   later_slow h = rw (lt-ltb (possible c replied entries silent) c.sup h)
 
-  pub later_wait : c.sup ≤ possible c replied entries silent → later ≡ wait
+  pub later_wait : c.sup ≤ possible c replied entries silent → later ≡ Wait
   later_wait h = rw (le-ltb (possible c replied entries silent) c.sup h)
 
   -- ---- and each exactly when
@@ -120,29 +120,29 @@ module _ (c : Config) (avoided : Bool) (replied : List Bool) (entries : List Con
   not_fails : (r : ℕ) → has_enough entries replied c.sup r ≡ false → Enough r → ⊥
   not_fails r h e = true≢false (sym (enough_passes r e) ∙ h)
 
-  first_of : (r : ℕ) → lowest_below 7 (has_enough entries replied c.sup) ≡ Replica r → FirstEnough r
+  first_of : (r : ℕ) → lowest_below 7 (has_enough entries replied c.sup) ≡ Some r → FirstEnough r
   first_of r e =
       let w = lowest_is 7 (has_enough entries replied c.sup) r e in
       record { one = w.below; enough = passes_enough r w.passes; lowest = λ q k. not_fails q (w.first q k) }
 
   -- the five ways that a decision can go
   pub data Way : Type 0 where
-    few : count_of replied < c.simple → answer ≡ wait → Way
+    few : count_of replied < c.simple → answer ≡ Wait → Way
     avoids : c.simple ≤ count_of replied → avoided ≡ true → answer ≡ slow_path → Way
-    commits : c.simple ≤ count_of replied → avoided ≡ false → (r : ℕ) → FirstEnough r → answer ≡ committed (said_by entries r) → Way
+    commits : c.simple ≤ count_of replied → avoided ≡ false → (r : ℕ) → FirstEnough r → answer ≡ Committed (said_by entries r) → Way
     slows : c.simple ≤ count_of replied → avoided ≡ false → NoneEnough → possible c replied entries silent < c.sup → answer ≡ slow_path → Way
-    waits : c.simple ≤ count_of replied → avoided ≡ false → NoneEnough → c.sup ≤ possible c replied entries silent → answer ≡ wait → Way
+    waits : c.simple ≤ count_of replied → avoided ≡ false → NoneEnough → c.sup ≤ possible c replied entries silent → answer ≡ Wait → Way
 
-  first_way : c.simple ≤ count_of replied → avoided ≡ false → (h : Holder) → first_enough entries replied c.sup ≡ h → Way
+  first_way : c.simple ≤ count_of replied → avoided ≡ false → (h : Option ℕ) → first_enough entries replied c.sup ≡ h → Way
   unfolding first_enough
-  first_way l a (Replica r) e = commits l a r (first_of r e) (open_by l a (Replica r) e)
-  first_way l a Nobody e = go (ltb (possible c replied entries silent) c.sup) refl
+  first_way l a (Some r) e = commits l a r (first_of r e) (open_by l a (Some r) e)
+  first_way l a None e = go (ltb (possible c replied entries silent) c.sup) refl
     where
       none : NoneEnough
       none r k = not_fails r (lowest_nobody 7 (has_enough entries replied c.sup) e r k)
 
       is_later : answer ≡ later
-      is_later = open_by l a Nobody e
+      is_later = open_by l a None e
 
       go : (b : Bool) → ltb (possible c replied entries silent) c.sup ≡ b → Way
       go true f = let k = ltb-true (possible c replied entries silent) c.sup f in slows l a none k (is_later ∙ later_slow k)
@@ -156,7 +156,7 @@ module _ (c : Config) (avoided : Bool) (replied : List Bool) (entries : List Con
       go false e true f = let l = ltb-false (count_of replied) c.simple e in avoids l f (fast_avoided l f)
       go false e false f = first_way (ltb-false (count_of replied) c.simple e) f (first_enough entries replied c.sup) refl
 
-  nobody : NoneEnough → first_enough entries replied c.sup ≡ Nobody
+  nobody : NoneEnough → first_enough entries replied c.sup ≡ None
   unfolding first_enough
   nobody h = all_fail_lowest 7 (has_enough entries replied c.sup) (λ r l. fails_not r (h r l))
 
@@ -168,88 +168,88 @@ module _ (c : Config) (avoided : Bool) (replied : List Bool) (entries : List Con
     pub first : FirstEnough holder
     pub words : x ≡ said_by entries holder
 
-  pub committed_when : (x : Contents) → Commits x → answer ≡ committed x
+  pub committed_when : (x : Contents) → Commits x → answer ≡ Committed x
   unfolding first_enough
   committed_when x w =
       let l : Lowest 7 (has_enough entries replied c.sup) w.holder = record { below = w.first.one; passes = enough_passes w.holder w.first.enough; first = λ q k. fails_not q (w.first.lowest q k) } in
-      open_by w.heard w.allowed (Replica w.holder) (is_lowest 7 (has_enough entries replied c.sup) w.holder l)
-      ∙ ap committed (sym w.words)
+      open_by w.heard w.allowed (Some w.holder) (is_lowest 7 (has_enough entries replied c.sup) w.holder l)
+      ∙ ap Committed (sym w.words)
 
-  pub when_committed : (x : Contents) → answer ≡ committed x → Commits x
+  pub when_committed : (x : Contents) → answer ≡ Committed x → Commits x
   when_committed x e = go way
     where
       go : Way → Commits x
-      go (few l f) = apart (sym f ∙ e) refl
-      go (avoids l a f) = apart (sym e ∙ f) refl
-      go (commits l a r w f) = record { heard = l; allowed = a; holder = r; first = w; words = same_committed (sym e ∙ f) }
-      go (slows l a n k f) = apart (sym e ∙ f) refl
-      go (waits l a n k f) = apart (sym f ∙ e) refl
+      go (few l f) = cc
+      go (avoids l a f) = cc
+      go (commits l a r w f) = record { heard = l; allowed = a; holder = r; first = w; words = cc }
+      go (slows l a n k f) = cc
+      go (waits l a n k f) = cc
 
   -- one such replica is enough for there to be a lowest
   pub some_first : (r : ℕ) → r < 7 → Enough r → (q : ℕ) × FirstEnough q
   unfolding first_enough
   some_first r l h = go (lowest_below 7 (has_enough entries replied c.sup)) refl
     where
-      go : (x : Holder) → lowest_below 7 (has_enough entries replied c.sup) ≡ x → (q : ℕ) × FirstEnough q
-      go Nobody e = absurd (not_fails r (lowest_nobody 7 (has_enough entries replied c.sup) e r l) h)
-      go (Replica q) e = (q, first_of q e)
+      go : (x : Option ℕ) → lowest_below 7 (has_enough entries replied c.sup) ≡ x → (q : ℕ) × FirstEnough q
+      go None e = absurd (not_fails r (lowest_nobody 7 (has_enough entries replied c.sup) e r l) h)
+      go (Some q) e = (q, first_of q e)
 
   -- Accepting exactly when the fast path is avoided, or no words occur often enough and none could any more
   abbrev pub Accepts : Type 0
   Accepts = (c.simple ≤ count_of replied) × ((avoided ≡ true) ⊎ ((avoided ≡ false) × NoneEnough × (possible c replied entries silent < c.sup)))
 
-  pub accepting_when : Accepts → answer ≡ accepting (joined replied entries)
+  pub accepting_when : Accepts → answer ≡ Accepting (joined replied entries)
   accepting_when w =
       ⊎_elim
       (λ a. fast_avoided w.0 a)
-      (λ a. open_by w.0 a.0 Nobody (nobody a.1) ∙ later_slow a.2)
+      (λ a. open_by w.0 a.0 None (nobody a.1) ∙ later_slow a.2)
       w.1
 
-  pub when_accepting : (x : Contents) → answer ≡ accepting x → Accepts × (x ≡ joined replied entries)
+  pub when_accepting : (x : Contents) → answer ≡ Accepting x → Accepts × (x ≡ joined replied entries)
   when_accepting x e = go way
     where
       go : Way → Accepts × (x ≡ joined replied entries)
-      go (few l f) = apart (sym f ∙ e) refl
-      go (avoids l a f) = ((l, inl a), same_accepting (sym e ∙ f))
-      go (commits l a r w f) = apart (sym f ∙ e) refl
-      go (slows l a n k f) = ((l, inr (a, n, k)), same_accepting (sym e ∙ f))
-      go (waits l a n k f) = apart (sym f ∙ e) refl
+      go (few l f) = cc
+      go (avoids l a f) = ((l, inl a), cc)
+      go (commits l a r w f) = cc
+      go (slows l a n k f) = ((l, inr (a, n, k)), cc)
+      go (waits l a n k f) = cc
 
   -- Wait exactly when too few have acked, or no words occur often enough and some still could
   abbrev pub Waits : Type 0
   Waits = (count_of replied < c.simple) ⊎ ((c.simple ≤ count_of replied) × (avoided ≡ false) × NoneEnough × (c.sup ≤ possible c replied entries silent))
 
-  pub wait_when : Waits → answer ≡ wait
+  pub wait_when : Waits → answer ≡ Wait
   wait_when w =
       ⊎_elim
       (λ l. fast_few l)
-      (λ a. open_by a.0 a.1 Nobody (nobody a.2) ∙ later_wait a.3)
+      (λ a. open_by a.0 a.1 None (nobody a.2) ∙ later_wait a.3)
       w
 
-  pub when_wait : answer ≡ wait → Waits
+  pub when_wait : answer ≡ Wait → Waits
   when_wait e = go way
     where
       go : Way → Waits
       go (few l f) = inl l
-      go (avoids l a f) = apart (sym e ∙ f) refl
-      go (commits l a r w f) = apart (sym e ∙ f) refl
-      go (slows l a n k f) = apart (sym e ∙ f) refl
+      go (avoids l a f) = cc
+      go (commits l a r w f) = cc
+      go (slows l a n k f) = cc
       go (waits l a n k f) = inr (l, a, n, k)
 
   -- it is never itself a refusal
-  never_refuses : (j : ℕ) → answer ≡ refused j → ⊥
+  never_refuses : (j : ℕ) → answer ≡ Refused j → ⊥
   never_refuses j e = go way
     where
       go : Way → ⊥
-      go (few l f) = apart (sym f ∙ e) refl
-      go (avoids l a f) = apart (sym f ∙ e) refl
-      go (commits l a r w f) = apart (sym f ∙ e) refl
-      go (slows l a n k f) = apart (sym f ∙ e) refl
-      go (waits l a n k f) = apart (sym f ∙ e) refl
+      go (few l f) = cc
+      go (avoids l a f) = cc
+      go (commits l a r w f) = cc
+      go (slows l a n k f) = cc
+      go (waits l a n k f) = cc
 
 -- so the entry refuses exactly by the number of the refusal
 pub fast_refused : (c : Config) (avoided : Bool) (replied : List Bool) (seqs : List ℕ) (deps : List (List ℕ)) (silent : List Bool) (m : ℕ)
-    → fast_answer c avoided replied seqs deps silent ≡ refused m
+    → fast_answer c avoided replied seqs deps silent ≡ Refused m
     → (0 < refusal_of c (both_fit c.n replied silent) replied (replies_of seqs deps)) × (refusal_of c (both_fit c.n replied silent) replied (replies_of seqs deps) ≡ m)
 unfolding fast_answer
 fast_refused c avoided replied seqs deps silent m e = refused_by _ _ m (never_refuses c avoided replied (replies_of seqs deps) silent) e

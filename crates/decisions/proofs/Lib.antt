@@ -1,1 +1,2 @@
 pub mod FastLaws
+pub mod CountLaws

@@ -5,7 +5,9 @@ use Rattle.base.specs.Marks.{marked, count_of}
 use Rattle.deps.specs.Batches.{no_op}
 use Rattle.base.specs.declared.config.Config.{Config}
 use Rattle.votes.specs.Contents.{none, said_by, join_of, entries_of}
-use Rattle.votes.specs.Answer.{Decided, wait, committed, accepting, unless_refused}
+use Rattle.votes.specs.Answer.{unless_refused}
+use Rattle.votes.specs.declared.answer.Decision.{Decision}
+use Rattle.votes.specs.declared.answer.Decision.TheVariants.{Wait, Committed, Accepting}
 use Rattle.votes.specs.Holder.{or_else}
 use Rattle.votes.specs.Identical.{first_enough, most_equals}
 use Rattle.votes.specs.declared.contents.Contents.{Contents}
@@ -34,17 +36,17 @@ abbrev pub possible : Config → List Bool → List Contents → List Bool → �
 possible c replied entries silent = most_equals entries replied + (c.n - gone_count c.own replied silent - count_of replied)
 
 -- a replica is acked exactly when it has a reply
-unfoldable pub fast_decision : Config → Bool → List Bool → List Contents → List Bool → Decided
+unfoldable pub fast_decision : Config → Bool → List Bool → List Contents → List Bool → Decision
 fast_decision c avoided replied entries silent =
-    cond (ltb (count_of replied) c.simple) wait
-    (cond avoided (accepting (joined replied entries))
-    (or_else (first_enough entries replied c.sup) entries committed
-    (cond (ltb (possible c replied entries silent) c.sup) (accepting (joined replied entries)) wait)))
+    cond (ltb (count_of replied) c.simple) Wait
+    (cond avoided (Accepting (joined replied entries))
+    (or_else (first_enough entries replied c.sup) entries Committed
+    (cond (ltb (possible c replied entries silent) c.sup) (Accepting (joined replied entries)) Wait)))
 
 -- a reply has no batch
 abbrev pub replies_of : List ℕ → List (List ℕ) → List Contents
 replies_of seqs deps = entries_of seqs deps (replicate 7 no_op)
 
-unfoldable pub fast_answer : Config → Bool → List Bool → List ℕ → List (List ℕ) → List Bool → Decided
+unfoldable pub fast_answer : Config → Bool → List Bool → List ℕ → List (List ℕ) → List Bool → Decision
 fast_answer c avoided replied seqs deps silent =
     unless_refused (refusal_of c (both_fit c.n replied silent) replied (replies_of seqs deps)) (fast_decision c avoided replied (replies_of seqs deps) silent)

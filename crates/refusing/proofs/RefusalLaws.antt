@@ -6,10 +6,8 @@ use Prim.Native.Nat.{ℕ, zero, suc}
 use Rattle.base.specs.Refusals.{outside_bounds, no_replica, bad_dependency, bad_batch, over_limit}
 use Rattle.base.specs.Config.{config_fits}
 use Rattle.base.specs.declared.config.Config.{Config}
-use Rattle.refusing.specs.Refusal.{parts_fit, refusal_of}
+use Rattle.refusing.specs.Refusal.{deps_fit, batch_fit, sequence_fit, parts_fit, refusal_of}
 use Rattle.votes.specs.declared.contents.Contents.{Contents}
-use Rattle.refusing.specs.declared.refusal.Part.{Part}
-use Rattle.refusing.specs.declared.refusal.Part.TheVariants.{Deps, Batch, Sequence}
 
 -- ---- five tests in a row, and the number of the first that fails
 
@@ -51,22 +49,22 @@ first_tells true true true true true = (refl, refl, refl, refl, refl)
 pub record Accepted (c : Config) (named : Bool) (listed : List Bool) (entries : List Contents) : Type 0 where
   pub config : config_fits c ≡ true
   pub replicas : named ≡ true
-  pub deps : parts_fit Deps c.n listed entries ≡ true
-  pub batches : parts_fit Batch c.n listed entries ≡ true
-  pub sequences : parts_fit Sequence c.n listed entries ≡ true
+  pub deps : parts_fit (deps_fit c.n) listed entries ≡ true
+  pub batches : parts_fit batch_fit listed entries ≡ true
+  pub sequences : parts_fit sequence_fit listed entries ≡ true
 
 module _ (c : Config) (named : Bool) (listed : List Bool) (entries : List Contents) where
-  abbrev pub fitting : Part → Bool
-  fitting part = parts_fit part c.n listed entries
+  abbrev pub fitting : (Contents → Bool) → Bool
+  fitting part_fits = parts_fit part_fits listed entries
 
   abbrev pub Exactly : ℕ → Type 0 → Type 0
   Exactly k P = (refusal_of c named listed entries ≡ k → P) × (P → refusal_of c named listed entries ≡ k)
 
-  exactly : (k : ℕ) → Exactly k (Told (config_fits c) named (fitting Deps) (fitting Batch) (fitting Sequence) k)
+  exactly : (k : ℕ) → Exactly k (Told (config_fits c) named (fitting (deps_fit c.n)) (fitting batch_fit) (fitting sequence_fit) k)
   unfolding refusal_of
   exactly k = (
-    λ e. rw (← e) (first_tells (config_fits c) named (fitting Deps) (fitting Batch) (fitting Sequence)),
-    first_is (config_fits c) named (fitting Deps) (fitting Batch) (fitting Sequence) k,
+    λ e. rw (← e) (first_tells (config_fits c) named (fitting (deps_fit c.n)) (fitting batch_fit) (fitting sequence_fit)),
+    first_is (config_fits c) named (fitting (deps_fit c.n)) (fitting batch_fit) (fitting sequence_fit) k,
   )
 
   pub refusal_none : refusal_of c named listed entries ≡ 0 → Accepted c named listed entries
@@ -81,11 +79,11 @@ module _ (c : Config) (named : Bool) (listed : List Bool) (entries : List Conten
   pub refused_replica : Exactly no_replica ((config_fits c ≡ true) × (named ≡ false))
   refused_replica = exactly 2
 
-  pub refused_dependency : Exactly bad_dependency ((config_fits c ≡ true) × (named ≡ true) × (fitting Deps ≡ false))
+  pub refused_dependency : Exactly bad_dependency ((config_fits c ≡ true) × (named ≡ true) × (fitting (deps_fit c.n) ≡ false))
   refused_dependency = exactly 4
 
-  pub refused_batch : Exactly bad_batch ((config_fits c ≡ true) × (named ≡ true) × (fitting Deps ≡ true) × (fitting Batch ≡ false))
+  pub refused_batch : Exactly bad_batch ((config_fits c ≡ true) × (named ≡ true) × (fitting (deps_fit c.n) ≡ true) × (fitting batch_fit ≡ false))
   refused_batch = exactly 5
 
-  pub refused_sequence : Exactly over_limit ((config_fits c ≡ true) × (named ≡ true) × (fitting Deps ≡ true) × (fitting Batch ≡ true) × (fitting Sequence ≡ false))
+  pub refused_sequence : Exactly over_limit ((config_fits c ≡ true) × (named ≡ true) × (fitting (deps_fit c.n) ≡ true) × (fitting batch_fit ≡ true) × (fitting sequence_fit ≡ false))
   refused_sequence = exactly 6

@@ -1,80 +1,58 @@
 // The first refusal of a decision, in the order of their numbers.
-ghost use Rattle.std.specs.Prelude.{◌≡◌};
-ghost use Rattle.refusing.specs.Refusal.{both_fit, part_fits, parts_fit, refusal_of};
+ghost use Rattle.std.specs.Prelude.{◌≡◌, ℕ, ◌<◌, Bool};
+ghost use Rattle.base.specs.Refusals.{refused_number};
+ghost use Rattle.votes.specs.Contents.{said_by};
+ghost use Rattle.votes.specs.declared.contents.Contents.{Contents};
+ghost use Rattle.refusing.specs.Refusal.{both_fit, parts_fit, refusal_of};
 
 use base::config::Config;
-use base::{marks, refusals};
+use base::marks;
+use base::refusals::{Refusal, SEQUENCE_LIMIT};
 use votes::contents::Contents;
 
-// The parts of an entry that have bounds.
-#[derive(Clone, Copy)]
-pub enum Part {
-    Deps,
-    Batch,
-    Sequence,
-}
-
-// 0 where nothing is to be refused. Whether every replica named is below N is the caller's to say.
-pub fn refusal(config: Config, named: bool, listed: [bool; 7], entries: [Contents; 7]) -> u64
-    ensures { result ≡ refusal_of config named listed entries }
+// Ok where nothing is to be refused. Whether every replica named is below N is the caller's to say.
+pub fn refusal(
+    config: Config,
+    named: bool,
+    listed: [bool; 7],
+    entries: [Contents; 7],
+) -> Result<(), Refusal>
+    ensures { refused_number result ≡ refusal_of config named listed entries }
 {
     if !config.fits() {
-        return refusals::OUTSIDE_BOUNDS;
+        return Err(Refusal::OutsideBounds);
     }
     if !named {
-        return refusals::NO_REPLICA;
+        return Err(Refusal::NoReplica);
     }
-    if !fit(Part::Deps, config.n, listed, entries) {
-        return refusals::BAD_DEPENDENCY;
+    if !each(listed, entries, |entry| entry.deps.fits(config.n)) {
+        return Err(Refusal::BadDependency);
     }
-    if !fit(Part::Batch, config.n, listed, entries) {
-        return refusals::BAD_BATCH;
+    if !each(listed, entries, |entry| entry.batch.fits()) {
+        return Err(Refusal::BadBatch);
     }
-    if !fit(Part::Sequence, config.n, listed, entries) {
-        return refusals::OVER_LIMIT;
+    if !each(listed, entries, |entry| entry.seq <= SEQUENCE_LIMIT) {
+        return Err(Refusal::OverLimit);
     }
-    0
+    Ok(())
 }
 
 // No mark at n or more in either.
 pub fn both_fit(n: usize, a: [bool; 7], b: [bool; 7]) -> bool
     ensures { result ≡ both_fit n a b }
 {
-    if !marks::fit(a, n) {
-        return false;
-    }
-    marks::fit(b, n)
+    marks::fit(a, n) && marks::fit(b, n)
 }
 
-// Whether the part is within its bounds in every entry listed.
-fn fit(part: Part, n: usize, listed: [bool; 7], entries: [Contents; 7]) -> bool
-    ensures { result ≡ parts_fit part n listed entries }
+// Whether every entry listed passes the test.
+fn each<F: Fn(Contents) -> bool>(listed: [bool; 7], entries: [Contents; 7], fits: F) -> bool
+    requires { F.IsAlwaysCallable fits }
+    ensures { (test : Contents → Bool) → ((r : ℕ) (b : _) → r < 7 → F.post fits (said_by entries r) b → b ≡ test (said_by entries r)) → result ≡ parts_fit test listed entries }
 {
-    let mut r: usize = 0;
-    while r < 7 {
-        if listed[r] {
-            let entry = entries[r];
-            if !fits(part, n, entry) {
-                return false;
-            }
+    for (r, entry) in entries.iter().enumerate() {
+        if listed[r] && !fits(*entry) {
+            return false;
         }
-        r += 1;
     }
     true
-}
-
-fn fits(part: Part, n: usize, entry: Contents) -> bool
-    ensures { result ≡ part_fits part n entry }
-{
-    match part {
-        Part::Deps => {
-            let deps = entry.deps;
-            deps.fits(n)
-        }
-        Part::Batch => {
-            let batch = entry.batch;
-            batch.fits()
-        }
-        Part::Sequence => entry.seq <= refusals::SEQUENCE_LIMIT,
-    }
 }

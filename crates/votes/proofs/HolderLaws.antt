@@ -2,67 +2,42 @@
 use mathlib.Core.Path.{◌≡◌, refl, ap, sym, ◌∙◌}
 use mathlib.Core.List.{List}
 use mathlib.Core.Bool.{Bool, true, false, cond, true≢false}
-use lib.Dec.{ltb}
-use borrow.Author.Tests.{ltb-true, ltb-false}
 use mathlib.Core.Logic.{⊎_elim}
 use Prim.Native.Nat.{ℕ, zero, suc, ◌+◌, ◌<◌}
 use native.Mathlib.Nat.{eq-or-lt_of_le, le_of_suc-le-suc}
 use native.Mathlib.Numerals.{add-one}
 use native.Mathlib.Omega.{arith}
 use Rattle.votes.specs.Contents.{said_by}
-use Rattle.votes.specs.Answer.{Decided, decision_of}
-use Rattle.votes.specs.Holder.{first_of, lowest_below, highest_below, Inside, or_else, decided_by}
+use Rattle.std.specs.Prelude.{Option, None, Some}
+use Rattle.votes.specs.Holder.{first_of, lowest_below, highest_below, Inside, or_else}
 use Rattle.votes.specs.declared.contents.Contents.{Contents}
-use Rattle.votes.specs.declared.answer.Step.{Step}
 use Rattle.votes.specs.declared.answer.Decision.{Decision}
-use Rattle.votes.specs.declared.holder.Holder.{Holder}
-use Rattle.votes.specs.declared.holder.Holder.TheVariants.{Nobody, Replica}
 
 -- ---- one turn of a search
 
-pub lowest_none : (p : ℕ → Bool) → Nobody ≡ lowest_below 0 p
+pub lowest_none : (p : ℕ → Bool) → None ≡ lowest_below 0 p
 unfolding lowest_below
 lowest_none p = refl
 
-pub lowest_in : (p : ℕ → Bool) (i : ℕ) (h : Holder) → p i ≡ true → h ≡ lowest_below i p → first_of h i ≡ lowest_below (i + 1) p
+pub lowest_in : (p : ℕ → Bool) (i : ℕ) (h : Option ℕ) → p i ≡ true → h ≡ lowest_below i p → first_of h i ≡ lowest_below (i + 1) p
 unfolding lowest_below
 lowest_in p i h t e = rw (add-one, t, e)
 
-pub lowest_out : (p : ℕ → Bool) (i : ℕ) (h : Holder) → p i ≡ false → h ≡ lowest_below i p → h ≡ lowest_below (i + 1) p
+pub lowest_out : (p : ℕ → Bool) (i : ℕ) (h : Option ℕ) → p i ≡ false → h ≡ lowest_below i p → h ≡ lowest_below (i + 1) p
 unfolding lowest_below
 lowest_out p i h t e = rw (add-one, t, e)
 
-pub highest_none : (p : ℕ → Bool) → Nobody ≡ highest_below 0 p
+pub highest_none : (p : ℕ → Bool) → None ≡ highest_below 0 p
 unfolding highest_below
 highest_none p = refl
 
-pub highest_in : (p : ℕ → Bool) (i : ℕ) → p i ≡ true → Replica i ≡ highest_below (i + 1) p
+pub highest_in : (p : ℕ → Bool) (i : ℕ) → p i ≡ true → Some i ≡ highest_below (i + 1) p
 unfolding highest_below
 highest_in p i t = rw (add-one, t)
 
-pub highest_out : (p : ℕ → Bool) (i : ℕ) (h : Holder) → p i ≡ false → h ≡ highest_below i p → h ≡ highest_below (i + 1) p
+pub highest_out : (p : ℕ → Bool) (i : ℕ) (h : Option ℕ) → p i ≡ false → h ≡ highest_below i p → h ≡ highest_below (i + 1) p
 unfolding highest_below
 highest_out p i h t e = rw (add-one, t, e)
-
--- ---- a replica is not nobody
-
-abbrev number_of : Holder → ℕ
-number_of Nobody = 0
-number_of (Replica k) = k
-
-abbrev is_replica : Holder → Bool
-is_replica Nobody = false
-is_replica (Replica k) = true
-
-pub same_replica : {j k : ℕ} → Replica j ≡ Replica k → j ≡ k
-same_replica e = ap number_of e
-
-pub nobody_is_none : {A : Type 0} {k : ℕ} → Nobody ≡ Replica k → A
-nobody_is_none e = absurd (true≢false (sym (ap is_replica e)))
-
-pub inside_replica : (h : Holder) (k : ℕ) → h ≡ Replica k → Inside h → k < 7
-inside_replica Nobody k e i = nobody_is_none e
-inside_replica (Replica j) k e i = rw (← same_replica e) i
 
 -- ---- the lowest that passes: exactly when
 
@@ -71,58 +46,53 @@ pub record Lowest (n : ℕ) (p : ℕ → Bool) (k : ℕ) : Type 0 where
   pub passes : p k ≡ true
   pub first : (j : ℕ) → j < k → p j ≡ false
 
-pub lowest_nobody : (n : ℕ) (p : ℕ → Bool) → lowest_below n p ≡ Nobody → (j : ℕ) → j < n → p j ≡ false
+pub lowest_nobody : (n : ℕ) (p : ℕ → Bool) → lowest_below n p ≡ None → (j : ℕ) → j < n → p j ≡ false
 unfolding lowest_below
 lowest_nobody zero p e j l = absurd (omega arith)
 lowest_nobody (suc n) p e j l = go (λ f q. lowest_nobody n p f j q) (lowest_below n p) refl (p n) refl e
   where
-    go : (lowest_below n p ≡ Nobody → j < n → p j ≡ false) → (h : Holder) → lowest_below n p ≡ h → (b : Bool) → p n ≡ b → cond b (first_of h n) h ≡ Nobody → p j ≡ false
-    go ih (Replica m) f true t g = nobody_is_none (sym g)
-    go ih (Replica m) f false t g = nobody_is_none (sym g)
-    go ih Nobody f true t g = nobody_is_none (sym g)
-    go ih Nobody f false t g = ⊎_elim (λ (q : j ≡ n). rw q t) (λ (q : j < n). ih f q) (eq-or-lt_of_le (le_of_suc-le-suc l))
+    go : (lowest_below n p ≡ None → j < n → p j ≡ false) → (h : Option ℕ) → lowest_below n p ≡ h → (b : Bool) → p n ≡ b → cond b (first_of h n) h ≡ None → p j ≡ false
+    go ih (Some m) f true t g = cc
+    go ih (Some m) f false t g = cc
+    go ih None f true t g = cc
+    go ih None f false t g = ⊎_elim (λ (q : j ≡ n). rw q t) (λ (q : j < n). ih f q) (eq-or-lt_of_le (le_of_suc-le-suc l))
 
-pub lowest_is : (n : ℕ) (p : ℕ → Bool) (k : ℕ) → lowest_below n p ≡ Replica k → Lowest n p k
+pub lowest_is : (n : ℕ) (p : ℕ → Bool) (k : ℕ) → lowest_below n p ≡ Some k → Lowest n p k
 unfolding lowest_below
-lowest_is zero p k e = nobody_is_none e
+lowest_is zero p k e = cc
 lowest_is (suc n) p k e = go (lowest_is n p k) (lowest_below n p) refl (p n) refl e
   where
     one_more : Lowest n p k → Lowest (suc n) p k
     one_more w = record { below = omega (arith, w.below); passes = w.passes; first = w.first }
 
-    go : (lowest_below n p ≡ Replica k → Lowest n p k) → (h : Holder) → lowest_below n p ≡ h → (b : Bool) → p n ≡ b → cond b (first_of h n) h ≡ Replica k → Lowest (suc n) p k
-    go ih (Replica m) f true t g = one_more (ih (f ∙ g))
-    go ih (Replica m) f false t g = one_more (ih (f ∙ g))
-    go ih Nobody f true t g = let q = same_replica g in record { below = omega (arith, q); passes = rw (← q) t; first = λ j l. lowest_nobody n p f j (omega (arith, q)) }
-    go ih Nobody f false t g = nobody_is_none g
+    go : (lowest_below n p ≡ Some k → Lowest n p k) → (h : Option ℕ) → lowest_below n p ≡ h → (b : Bool) → p n ≡ b → cond b (first_of h n) h ≡ Some k → Lowest (suc n) p k
+    go ih (Some m) f true t g = one_more (ih (f ∙ g))
+    go ih (Some m) f false t g = one_more (ih (f ∙ g))
+    go ih None f true t g = let q : n ≡ k = cc in record { below = omega (arith, q); passes = rw (← q) t; first = λ j l. lowest_nobody n p f j (omega (arith, q)) }
+    go ih None f false t g = cc
 
 -- neither is below the other
 only : (m k : ℕ) → (m < k → ⊥) → (k < m → ⊥) → m ≡ k
-only m k f g = go (ltb m k) refl (ltb k m) refl
-  where
-    go : (a : Bool) → ltb m k ≡ a → (b : Bool) → ltb k m ≡ b → m ≡ k
-    go true e b h = absurd (f (ltb-true m k e))
-    go false e true h = absurd (g (ltb-true k m h))
-    go false e false h = omega (arith, ltb-false m k e, ltb-false k m h)
+only m k f g = omega arith
 
-pub is_lowest : (n : ℕ) (p : ℕ → Bool) (k : ℕ) → Lowest n p k → lowest_below n p ≡ Replica k
+pub is_lowest : (n : ℕ) (p : ℕ → Bool) (k : ℕ) → Lowest n p k → lowest_below n p ≡ Some k
 is_lowest n p k w = go (lowest_below n p) refl
   where
-    go : (h : Holder) → lowest_below n p ≡ h → lowest_below n p ≡ Replica k
-    go Nobody e = absurd (true≢false (sym w.passes ∙ lowest_nobody n p e k w.below))
-    go (Replica m) e =
+    go : (h : Option ℕ) → lowest_below n p ≡ h → lowest_below n p ≡ Some k
+    go None e = absurd (true≢false (sym w.passes ∙ lowest_nobody n p e k w.below))
+    go (Some m) e =
         let v = lowest_is n p m e in
         let f : (m < k → ⊥) = λ l. true≢false (sym v.passes ∙ w.first m l) in
         let g : (k < m → ⊥) = λ l. true≢false (sym w.passes ∙ v.first k l) in
         let q : m ≡ k = only m k f g in
-        e ∙ ap Replica q
+        e ∙ ap Some q
 
-pub all_fail_lowest : (n : ℕ) (p : ℕ → Bool) → ((j : ℕ) → j < n → p j ≡ false) → lowest_below n p ≡ Nobody
+pub all_fail_lowest : (n : ℕ) (p : ℕ → Bool) → ((j : ℕ) → j < n → p j ≡ false) → lowest_below n p ≡ None
 all_fail_lowest n p h = go (lowest_below n p) refl
   where
-    go : (x : Holder) → lowest_below n p ≡ x → lowest_below n p ≡ Nobody
-    go Nobody e = e
-    go (Replica m) e = let v = lowest_is n p m e in absurd (true≢false (sym v.passes ∙ h m v.below))
+    go : (x : Option ℕ) → lowest_below n p ≡ x → lowest_below n p ≡ None
+    go None e = e
+    go (Some m) e = let v = lowest_is n p m e in absurd (true≢false (sym v.passes ∙ h m v.below))
 
 -- ---- the highest that passes: exactly when
 
@@ -131,22 +101,22 @@ pub record Highest (n : ℕ) (p : ℕ → Bool) (k : ℕ) : Type 0 where
   pub passes : p k ≡ true
   pub last : (j : ℕ) → k < j → j < n → p j ≡ false
 
-pub highest_nobody : (n : ℕ) (p : ℕ → Bool) → highest_below n p ≡ Nobody → (j : ℕ) → j < n → p j ≡ false
+pub highest_nobody : (n : ℕ) (p : ℕ → Bool) → highest_below n p ≡ None → (j : ℕ) → j < n → p j ≡ false
 unfolding highest_below
 highest_nobody zero p e j l = absurd (omega arith)
 highest_nobody (suc n) p e j l = go (λ f q. highest_nobody n p f j q) (p n) refl e
   where
-    go : (highest_below n p ≡ Nobody → j < n → p j ≡ false) → (b : Bool) → p n ≡ b → cond b (Replica n) (highest_below n p) ≡ Nobody → p j ≡ false
-    go ih true t g = nobody_is_none (sym g)
+    go : (highest_below n p ≡ None → j < n → p j ≡ false) → (b : Bool) → p n ≡ b → cond b (Some n) (highest_below n p) ≡ None → p j ≡ false
+    go ih true t g = cc
     go ih false t g = ⊎_elim (λ (q : j ≡ n). rw q t) (λ (q : j < n). ih g q) (eq-or-lt_of_le (le_of_suc-le-suc l))
 
-pub highest_is : (n : ℕ) (p : ℕ → Bool) (k : ℕ) → highest_below n p ≡ Replica k → Highest n p k
+pub highest_is : (n : ℕ) (p : ℕ → Bool) (k : ℕ) → highest_below n p ≡ Some k → Highest n p k
 unfolding highest_below
-highest_is zero p k e = nobody_is_none e
+highest_is zero p k e = cc
 highest_is (suc n) p k e = go (highest_is n p k) (p n) refl e
   where
-    go : (highest_below n p ≡ Replica k → Highest n p k) → (b : Bool) → p n ≡ b → cond b (Replica n) (highest_below n p) ≡ Replica k → Highest (suc n) p k
-    go ih true t g = let q = same_replica g in record { below = omega (arith, q); passes = rw (← q) t; last = λ j l m. absurd (omega (arith, q, l, m)) }
+    go : (highest_below n p ≡ Some k → Highest n p k) → (b : Bool) → p n ≡ b → cond b (Some n) (highest_below n p) ≡ Some k → Highest (suc n) p k
+    go ih true t g = let q : n ≡ k = cc in record { below = omega (arith, q); passes = rw (← q) t; last = λ j l m. absurd (omega (arith, q, l, m)) }
     go ih false t g =
         let w = ih g in
         record {
@@ -155,53 +125,41 @@ highest_is (suc n) p k e = go (highest_is n p k) (p n) refl e
           last = λ j l m. ⊎_elim (λ (q : j ≡ n). rw q t) (λ (q : j < n). w.last j l q) (eq-or-lt_of_le (le_of_suc-le-suc m));
         }
 
-pub is_highest : (n : ℕ) (p : ℕ → Bool) (k : ℕ) → Highest n p k → highest_below n p ≡ Replica k
+pub is_highest : (n : ℕ) (p : ℕ → Bool) (k : ℕ) → Highest n p k → highest_below n p ≡ Some k
 is_highest n p k w = go (highest_below n p) refl
   where
-    go : (h : Holder) → highest_below n p ≡ h → highest_below n p ≡ Replica k
-    go Nobody e = absurd (true≢false (sym w.passes ∙ highest_nobody n p e k w.below))
-    go (Replica m) e =
+    go : (h : Option ℕ) → highest_below n p ≡ h → highest_below n p ≡ Some k
+    go None e = absurd (true≢false (sym w.passes ∙ highest_nobody n p e k w.below))
+    go (Some m) e =
         let v = highest_is n p m e in
         let f : (m < k → ⊥) = λ l. true≢false (sym w.passes ∙ v.last k l w.below) in
         let g : (k < m → ⊥) = λ l. true≢false (sym v.passes ∙ w.last m l v.below) in
-        e ∙ ap Replica (only m k f g)
+        e ∙ ap Some (only m k f g)
 
-pub all_fail_highest : (n : ℕ) (p : ℕ → Bool) → ((j : ℕ) → j < n → p j ≡ false) → highest_below n p ≡ Nobody
+pub all_fail_highest : (n : ℕ) (p : ℕ → Bool) → ((j : ℕ) → j < n → p j ≡ false) → highest_below n p ≡ None
 all_fail_highest n p h = go (highest_below n p) refl
   where
-    go : (x : Holder) → highest_below n p ≡ x → highest_below n p ≡ Nobody
-    go Nobody e = e
-    go (Replica m) e = let v = highest_is n p m e in absurd (true≢false (sym v.passes ∙ h m v.below))
+    go : (x : Option ℕ) → highest_below n p ≡ x → highest_below n p ≡ None
+    go None e = e
+    go (Some m) e = let v = highest_is n p m e in absurd (true≢false (sym v.passes ∙ h m v.below))
 
 -- ---- who is found is one of the seven
 
 pub lowest_inside : (p : ℕ → Bool) → Inside (lowest_below 7 p)
 lowest_inside p = go (lowest_below 7 p) refl
   where
-    go : (h : Holder) → lowest_below 7 p ≡ h → Inside h
-    go Nobody e = tt
-    go (Replica k) e = (lowest_is 7 p k e).below
+    go : (h : Option ℕ) → lowest_below 7 p ≡ h → Inside h
+    go None e = tt
+    go (Some k) e = (lowest_is 7 p k e).below
 
 pub highest_inside : (p : ℕ → Bool) → Inside (highest_below 7 p)
 highest_inside p = go (highest_below 7 p) refl
   where
-    go : (h : Holder) → highest_below 7 p ≡ h → Inside h
-    go Nobody e = tt
-    go (Replica k) e = (highest_is 7 p k e).below
-
--- ---- deciding on the values is deciding
-
-pub decides_as : (entries : List Contents) (step : Step) (decide : Contents → Decided)
-    → ((c : Contents) → decision_of (decide c) ≡ record { step = step; contents = c })
-    → (h : Holder) (d : Decided) (g : Holder) (next r : Decision)
-    → r ≡ decided_by g entries step next → g ≡ h → next ≡ decision_of d → r ≡ decision_of (or_else h entries decide d)
-decides_as entries step decide f h d g next r e p q = e ∙ rw (p, q) (go h)
-  where
-    go : (x : Holder) → decided_by x entries step (decision_of d) ≡ decision_of (or_else x entries decide d)
-    go Nobody = refl
-    go (Replica k) = sym (f (said_by entries k))
+    go : (h : Option ℕ) → highest_below 7 p ≡ h → Inside h
+    go None e = tt
+    go (Some k) e = (highest_is 7 p k e).below
 
 -- what every decision of a holder and the next one have
-pub or_else_has : (P : Decided → Type 0) (h : Holder) (entries : List Contents) (decide : Contents → Decided) (next : Decided) → ((c : Contents) → P (decide c)) → P next → P (or_else h entries decide next)
-or_else_has P Nobody entries decide next f p = p
-or_else_has P (Replica r) entries decide next f p = f (said_by entries r)
+pub or_else_has : (P : Decision → Type 0) (h : Option ℕ) (entries : List Contents) (decide : Contents → Decision) (next : Decision) → ((c : Contents) → P (decide c)) → P next → P (or_else h entries decide next)
+or_else_has P None entries decide next f p = p
+or_else_has P (Some r) entries decide next f p = f (said_by entries r)

@@ -16,11 +16,10 @@ use Rattle.base.specs.Marks.{marked, count_of}
 use Rattle.base.proofs.Loops.{both_true, all_none, all_at, all_each, all_not, some_fails, count_same, count_less, count_at_most, greatest_more, greatest_at, greatest_at_most, mix, mix_more, mix_next, mix_keep, length_below, below_at_lem}
 use Rattle.votes.specs.Contents.{said_by, same_contents}
 use Rattle.votes.specs.Identical.{same_said, is_equal, equal_to, occurrences, has_enough, occurrences_in, first_enough, most_equals, identical_of, other_than}
+use Rattle.std.specs.Prelude.{Option, None, Some}
 use Rattle.votes.specs.Holder.{first_of, lowest_below, Inside}
 use Rattle.votes.specs.declared.contents.Contents.{Contents}
 use Rattle.votes.specs.declared.identical.Identical.{Identical}
-use Rattle.votes.specs.declared.holder.Holder.{Holder}
-use Rattle.votes.specs.declared.holder.Holder.TheVariants.{Nobody, Replica}
 use Rattle.votes.proofs.HolderLaws.{lowest_in, lowest_out, lowest_nobody, all_fail_lowest, lowest_inside}
 
 not_is_false : (b : Bool) → not b ≡ false → b ≡ true
@@ -176,7 +175,7 @@ module _ (listed : ℕ → Bool) (same : ℕ → ℕ → Bool)
             let g : times_in r ≡ times_in i = rw (a, f) (same_times r i b) in
             omega (arith, greatest_at times_in i r m, e, g)
 
-    pub still_first : (enough : ℕ) → left i ≡ false → (first : Holder) → first ≡ lowest_below i (enough_times enough) → first ≡ lowest_below (i + 1) (enough_times enough)
+    pub still_first : (enough : ℕ) → left i ≡ false → (first : Option ℕ) → first ≡ lowest_below i (enough_times enough) → first ≡ lowest_below (i + 1) (enough_times enough)
     still_first enough h first e = go (enough_times enough i) refl (why h)
       where
         go : (b : Bool) → enough_times enough i ≡ b → Why → first ≡ lowest_below (i + 1) (enough_times enough)
@@ -186,9 +185,9 @@ module _ (listed : ℕ → Bool) (same : ℕ → ℕ → Bool)
             let y : enough_times enough r ≡ true = rw (a, same_times r i b) (rw g at f) in
             found (lowest_below i (enough_times enough)) refl y
           where
-            found : (x : Holder) → lowest_below i (enough_times enough) ≡ x → enough_times enough r ≡ true → first ≡ lowest_below (i + 1) (enough_times enough)
-            found Nobody k y = absurd (true≢false (sym y ∙ lowest_nobody i (enough_times enough) k r m))
-            found (Replica j) k y = e ∙ k ∙ sym (ap (λ (x : Holder). first_of x i) k) ∙ lowest_in (enough_times enough) i (lowest_below i (enough_times enough)) f refl
+            found : (x : Option ℕ) → lowest_below i (enough_times enough) ≡ x → enough_times enough r ≡ true → first ≡ lowest_below (i + 1) (enough_times enough)
+            found None k y = absurd (true≢false (sym y ∙ lowest_nobody i (enough_times enough) k r m))
+            found (Some j) k y = e ∙ k ∙ sym (ap (λ (x : Option ℕ). first_of x i) k) ∙ lowest_in (enough_times enough) i (lowest_below i (enough_times enough)) f refl
 
 -- ---- one turn of the count, at an entry that is left
 
@@ -209,7 +208,7 @@ unfolding first_enough
 first_inside entries listed enough = lowest_inside (has_enough entries listed enough)
 
 -- an empty list has none
-pub empty_never : (entries : List Contents) (listed : List Bool) (enough : ℕ) → ((r : ℕ) → r < 7 → marked listed r ≡ false) → first_enough entries listed enough ≡ Nobody
+pub empty_never : (entries : List Contents) (listed : List Bool) (enough : ℕ) → ((r : ℕ) → r < 7 → marked listed r ≡ false) → first_enough entries listed enough ≡ None
 unfolding first_enough
 empty_never entries listed enough h = all_fail_lowest 7 (has_enough entries listed enough) (λ r l. ap (λ (b : Bool). b && leb enough (occurrences entries listed r)) (h r l))
 

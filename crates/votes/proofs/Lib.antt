@@ -1,3 +1,4 @@
 pub mod AnswerLaws
 pub mod HolderLaws
 pub mod IdenticalLaws
+pub mod MadeLaws

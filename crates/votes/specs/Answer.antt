@@ -1,25 +1,18 @@
--- What is decided, and the values that say so.
-use Rattle.std.specs.Prelude.{ℕ, zero, suc}
-use Rattle.votes.specs.Contents.{none}
+-- What is decided: what there is to go on with, and a refusal before it.
+use Rattle.std.specs.Prelude.{ℕ, zero, suc, Option, None, Some}
 use Rattle.votes.specs.declared.contents.Contents.{Contents}
-use Rattle.votes.specs.declared.answer.Step.TheVariants.{Wait, Committed, Accepting, PreAccepting, Refused}
 use Rattle.votes.specs.declared.answer.Decision.{Decision}
+use Rattle.votes.specs.declared.answer.Decision.TheVariants.{Wait, Committed, Accepting, PreAccepting, Refused}
 
-pub data Decided : Type 0 where
-  wait : Decided
-  committed : Contents → Decided
-  accepting : Contents → Decided
-  pre_accepting : Contents → Decided
-  refused : ℕ → Decided
-
-abbrev pub decision_of : Decided → Decision
-decision_of wait = record { step = Wait; contents = none }
-decision_of (committed c) = record { step = Committed; contents = c }
-decision_of (accepting c) = record { step = Accepting; contents = c }
-decision_of (pre_accepting c) = record { step = PreAccepting; contents = c }
-decision_of (refused number) = record { step = Refused number; contents = none }
+-- nothing beside a wait or a refusal
+abbrev pub goes_on_with : Decision → Option Contents
+goes_on_with Wait = None
+goes_on_with (Committed c) = Some c
+goes_on_with (Accepting c) = Some c
+goes_on_with (PreAccepting c) = Some c
+goes_on_with (Refused number) = None
 
 -- a refusal's number, of which 0 is none, before what is decided
-abbrev pub unless_refused : ℕ → Decided → Decided
+abbrev pub unless_refused : ℕ → Decision → Decision
 unless_refused zero d = d
-unless_refused (suc k) d = refused (suc k)
+unless_refused (suc k) d = Refused (suc k)

@@ -1,11 +1,10 @@
 -- Identical entries: how many equals an entry has among those listed, and who is the first with enough.
-use Rattle.std.specs.Prelude.{List, Bool, cond, not, ◌&&◌, leb, ℕ}
+use Rattle.std.specs.Prelude.{List, Bool, cond, not, ◌&&◌, leb, ℕ, Option}
 use Rattle.base.specs.Below.{count_below, greatest_below, list_below}
 use Rattle.base.specs.Marks.{marked}
 use Rattle.votes.specs.Contents.{said_by, same_contents}
 use Rattle.votes.specs.Holder.{lowest_below}
 use Rattle.votes.specs.declared.contents.Contents.{Contents}
-use Rattle.votes.specs.declared.holder.Holder.{Holder}
 use Rattle.votes.specs.declared.identical.Identical.{Identical}
 use Rattle.votes.specs.declared.identical.Group.{Group}
 
@@ -32,7 +31,7 @@ abbrev pub occurrences_in : List Contents → List Bool → ℕ → ℕ
 occurrences_in entries listed r = cond (marked listed r) (occurrences entries listed r) 0
 
 -- the lowest replica listed that says what occurs often enough; an empty list has none
-unfoldable pub first_enough : List Contents → List Bool → ℕ → Holder
+unfoldable pub first_enough : List Contents → List Bool → ℕ → Option ℕ
 first_enough entries listed enough = lowest_below 7 (has_enough entries listed enough)
 
 -- the greatest number of equals

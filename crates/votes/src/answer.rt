@@ -1,37 +1,29 @@
 // What is decided.
 ghost use Rattle.std.specs.Prelude.{◌≡◌};
-ghost use Rattle.votes.specs.Answer.{decision_of, refused};
+ghost use Rattle.votes.specs.Answer.{goes_on_with};
 
 use super::contents::Contents;
 
+// What to do, and what to go on with: there is nothing to go on with in a wait or a refusal.
 #[derive(Clone, Copy)]
-pub enum Step {
+pub enum Decision {
     Wait,
-    Committed,
-    Accepting,
-    PreAccepting,
+    Committed(Contents),
+    Accepting(Contents),
+    PreAccepting(Contents),
     Refused { number: u64 },
 }
 
-// The step, and what to go on with: nothing beside a wait or a refusal.
-#[derive(Clone, Copy)]
-pub struct Decision {
-    pub step: Step,
-    pub contents: Contents,
-}
-
 impl Decision {
-    pub const WAIT: Decision = Decision {
-        step: Step::Wait,
-        contents: Contents::NONE,
-    };
-
-    pub fn refused(number: u64) -> Decision
-        ensures { result ≡ decision_of (refused number) }
+    // What there is to go on with.
+    pub fn contents(self) -> Option<Contents>
+        ensures { result ≡ goes_on_with self }
     {
-        Decision {
-            step: Step::Refused { number: number },
-            contents: Contents::NONE,
+        match self {
+            Decision::Committed(contents)
+            | Decision::Accepting(contents)
+            | Decision::PreAccepting(contents) => Some(contents),
+            Decision::Wait | Decision::Refused { .. } => None,
         }
     }
 }

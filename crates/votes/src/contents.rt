@@ -31,35 +31,17 @@ impl Contents {
     pub(crate) fn same(self, other: Contents) -> bool
         ensures { result ≡ same_contents self other }
     {
-        if self.seq != other.seq {
-            return false;
-        }
-        let deps = self.deps;
-        let others = other.deps;
-        if !deps.same(others) {
-            return false;
-        }
-        let batch = self.batch;
-        let batches = other.batch;
-        batch.same(batches)
+        self.seq == other.seq && self.deps.same(other.deps) && self.batch.same(other.batch)
     }
 
     // The greater sequence, and the union of the dependencies.
     pub fn join(self, other: Contents) -> Contents
         ensures { result ≡ join_of self other }
     {
-        let seq = if self.seq < other.seq {
-            other.seq
-        } else {
-            self.seq
-        };
-        let deps = self.deps;
-        let others = other.deps;
-        let batch = self.batch;
         Contents {
-            seq: seq,
-            deps: deps.union(others),
-            batch: batch,
+            seq: self.seq.max(other.seq),
+            deps: self.deps.union(other.deps),
+            batch: self.batch,
         }
     }
 }
@@ -68,18 +50,9 @@ impl Contents {
 pub fn entries(seqs: [u64; 7], deps: [[u8; 7]; 7], batches: [Batch; 7]) -> [Contents; 7]
     ensures { result ≡ entries_of seqs deps batches }
 {
-    let mut out = [Contents::NONE; 7];
-    let mut r: usize = 0;
-    while r < 7 {
-        let cols = deps[r];
-        let set = DepSet { cols: cols };
-        let batch = batches[r];
-        out[r] = Contents {
-            seq: seqs[r],
-            deps: set,
-            batch: batch,
-        };
-        r += 1;
-    }
-    out
+    std::array::from_fn(|r| Contents {
+        seq: seqs[r],
+        deps: DepSet { cols: deps[r] },
+        batch: batches[r],
+    })
 }

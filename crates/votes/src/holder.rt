@@ -1,41 +1,22 @@
-// A replica, or nobody.
+// What is decided with the words of a replica, if there is one.
 ghost use Rattle.std.specs.Prelude.{◌≡◌};
-ghost use Rattle.votes.specs.Holder.{Inside, first_of, decided_by};
+ghost use Rattle.votes.specs.Holder.{Inside, or_else};
+ghost use Rattle.votes.specs.declared.answer.Decision.{Decision};
+ghost use Rattle.votes.specs.declared.contents.Contents.{Contents};
 
-use super::answer::{Decision, Step};
+use super::answer::Decision;
 use super::contents::Contents;
 
-#[derive(Clone, Copy)]
-pub enum Holder {
-    Nobody,
-    Replica { number: usize },
-}
-
-impl Holder {
-    // The holder, or where there is none the replica.
-    pub(crate) fn or(self, r: usize) -> Holder
-        ensures { result ≡ first_of self r }
-    {
-        match self {
-            Holder::Nobody => Holder::Replica { number: r },
-            Holder::Replica { number } => Holder::Replica { number: number },
-        }
-    }
-
-    // The step with what the holder says; where there is none, the other decision.
-    pub fn decides(self, entries: [Contents; 7], step: Step, otherwise: Decision) -> Decision
-        requires { Inside self }
-        ensures { result ≡ decided_by self entries step otherwise }
-    {
-        match self {
-            Holder::Nobody => otherwise,
-            Holder::Replica { number } => {
-                let entry = entries[number];
-                Decision {
-                    step: step,
-                    contents: entry,
-                }
-            }
-        }
-    }
+// The decision on what the holder says; where there is no holder, the other decision.
+pub fn decides<F: FnOnce(Contents) -> Decision>(
+    holder: Option<usize>,
+    entries: [Contents; 7],
+    decide: F,
+    otherwise: Decision,
+) -> Decision
+    requires inside { Inside holder }
+    requires callable { F.IsAlwaysCallable decide }
+    ensures { (words : Contents → Decision) → ((c : Contents) (d : Decision) → F.post decide c d → d ≡ words c) → result ≡ or_else holder entries words otherwise }
+{
+    holder.map_or(otherwise, |r| decide(entries[r]))
 }

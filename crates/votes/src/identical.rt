@@ -1,14 +1,13 @@
 // The count of identical entries.
-ghost use Rattle.std.specs.Prelude.{◌≡◌, max, ◌<◌};
-ghost use Rattle.votes.specs.Identical.{is_equal, group_of, identical_of};
+ghost use Rattle.std.specs.Prelude.{◌≡◌, ◌<◌};
+ghost use Rattle.votes.specs.Identical.{group_of, identical_of};
 
 use super::contents::Contents;
-use super::holder::Holder;
 
 // The lowest replica listed whose entry has enough equals among those listed, and the greatest number of equals.
 #[derive(Clone, Copy)]
 pub struct Identical {
-    pub first: Holder,
+    pub first: Option<usize>,
     pub most: usize,
 }
 
@@ -24,62 +23,32 @@ pub fn count_identical(entries: [Contents; 7], listed: [bool; 7], enough: usize)
     ensures { result ≡ identical_of entries listed enough }
 {
     let mut left = listed;
-    let mut first = Holder::Nobody;
-    let mut most: usize = 0;
-    let mut r: usize = 0;
-    while r < 7 {
+    let mut first = None;
+    let mut most = 0;
+    for r in 0..7 {
         if left[r] {
             let group = group_of(entries, left, r);
-            let count = group.count;
-            if enough <= count {
-                first = first.or(r);
+            if enough <= group.count {
+                first = first.or(Some(r));
             }
-            most = greater(most, count);
+            most = most.max(group.count);
             left = group.left;
         }
-        r += 1;
     }
-    Identical {
-        first: first,
-        most: most,
-    }
+    Identical { first, most }
 }
 
 // The entries left that are equal to that of a replica.
-fn group_of(entries: [Contents; 7], left: [bool; 7], r: usize) -> Group
+fn group_of(entries: [Contents; 7], mut left: [bool; 7], r: usize) -> Group
     requires { r < 7 }
     ensures { result ≡ group_of entries left r }
 {
-    let own = entries[r];
-    let mut rest = left;
-    let mut count: usize = 0;
-    let mut q: usize = 0;
-    while q < 7 {
-        let entry = entries[q];
-        if is_equal(rest[q], own, entry) {
-            rest[q] = false;
+    let mut count = 0;
+    for (q, entry) in entries.iter().enumerate() {
+        if left[q] && entries[r].same(*entry) {
+            left[q] = false;
             count += 1;
         }
-        q += 1;
     }
-    Group {
-        count: count,
-        left: rest,
-    }
-}
-
-// Whether an entry is left, and equal.
-fn is_equal(left: bool, own: Contents, entry: Contents) -> bool
-    ensures { result ≡ is_equal left own entry }
-{
-    if !left {
-        return false;
-    }
-    own.same(entry)
-}
-
-fn greater(a: usize, b: usize) -> usize
-    ensures { result ≡ max a b }
-{
-    if a < b { b } else { a }
+    Group { count, left }
 }

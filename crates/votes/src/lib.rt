@@ -3,5 +3,5 @@
 
 pub mod contents; // contents.rt: what a reply or vote says
 pub mod answer; // answer.rt: what is decided
-pub mod holder; // holder.rt: a replica or nobody
+pub mod holder; // holder.rt: what is decided with a replica's words
 pub mod identical; // identical.rt: the count of identical entries

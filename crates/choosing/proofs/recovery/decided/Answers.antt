@@ -5,20 +5,10 @@ use Rattle.choosing.proofs.recovery.decided.Goals as goal
 
 pub returns-then-not-is_known : goal.returns-then-not-is_known
 unfolding choice_decided
-returns-then-not-is_known c =
-    let e = failed c.is_known.ensures c.if-not-is_known.true in
-    rw e c.unknown.ensures
+returns-then-not-is_known c = rw (failed c.is_known.ensures c.if-not-is_known.true) c.unknown.ensures
 
-pub returns-in-Rust : goal.returns-in-Rust
+pub returns : goal.returns
 unfolding choice_decided
-returns-in-Rust c =
-    let e = passed c.is_known.ensures c.if-not-is_known.false in
-    rw (e, c.in-Rust.is)
-    (rw (c.marks_at-acked.ensures, c.marks_at-voted.ensures, c.statuses_at-statuses.ensures, c.words_at-seqs.ensures, c.sets_at-deps.ensures, c.batches_at-batches.ensures) at c.rust_choice.ensures)
-
-pub returns-in-Paper : goal.returns-in-Paper
-unfolding choice_decided
-returns-in-Paper c =
-    let e = passed c.is_known.ensures c.if-not-is_known.false in
-    rw (e, c.in-Paper.is)
-    (rw (c.marks_at-acked.ensures, c.marks_at-voted.ensures, c.statuses_at-statuses.ensures, c.words_at-seqs.ensures, c.sets_at-deps.ensures, c.batches_at-batches.ensures) at c.paper_choice.ensures)
+returns c =
+    rw (passed c.is_known.ensures c.if-not-is_known.false)
+    (rw (c.marks_at.ensures, c.marks_at-2.ensures, c.statuses_at.ensures, c.entries.ensures, c.words_at.ensures, c.sets_at.ensures, c.batches_at.ensures) at c.choice.ensures)

@@ -1,25 +1,26 @@
--- `choosing::recovery::kinds_known` meets its contract: the kinds of every batch passed so far are known.
-use mathlib.Core.Path.{◌≡◌, sym}
+-- `choosing::recovery::kinds_known` meets its contract: the chain tests the kinds of every batch.
+use mathlib.Core.Path.{◌≡◌, refl, ap, ◌∙◌}
+use mathlib.Core.Bool.{Bool}
+use Prim.Native.Nat.{ℕ, ◌+◌}
 use native.Mathlib.Omega.{arith}
+use borrow.Author.Tests.{tests}
 use borrow.Author.Rules.{rules}
-use Rattle.base.proofs.Loops.{all_none, all_more, all_not}
-use Rattle.base.proofs.Tests.{passed, failed}
+use Rattle.std.specs.List.{list_all, range_with_len}
+use Rattle.std.proofs.lemmas.Iterator.{YieldsList-from_range}
+use Rattle.std.proofs.lemmas.Iterator.Search.{all_from_yields_List}
+use Rattle.std.proofs.lemmas.List.FromFn.{length-range_with_len, get_or-range_with_len}
+use Rattle.base.specs.Below.{all_below}
+use Rattle.base.proofs.Chains.{all_same, all_listed}
 use Rattle.choosing.specs.Recovery.{kinds_in, kinds_known}
 use Rattle.choosing.proofs.recovery.kinds_known.Goals as goal
 
-pub loop-i-init : goal.loop-i-init
-loop-i-init c = (search rules, all_none _)
-
-pub returns-then-not-each_below : goal.returns-then-not-each_below
-unfolding kinds_known
-returns-then-not-each_below c =
-    sym (all_not (kinds_in c.args.votes.now) 7 c.loop-i.i c.loop-i-test.true (failed c.each_below.ensures c.if-not-each_below.true))
-
-pub loop-i-preserved : goal.loop-i-preserved
-loop-i-preserved c = (search rules, all_more _ _ c.loop-i.invariant.1 (passed c.each_below.ensures c.if-not-each_below.false))
+all_range : (p : ℕ → Bool) (n : ℕ) → list_all p (range_with_len 0 n) ≡ all_below n p
+all_range p n =
+    all_listed p (range_with_len 0 n) 0
+    ∙ rw (length-range_with_len 0 n) (all_same _ _ n (λ i l. let z : 0 + i ≡ i = omega arith in ap p (get_or-range_with_len 0 n i 0 l ∙ z)))
 
 pub returns : goal.returns
 unfolding kinds_known
 returns c =
-    let e : c.loop-i.i ≡ 7 = omega arith in
-    sym (rw e at c.loop-i.invariant.1)
+    all_from_yields_List (kinds_in c.args.votes.now) _ _ _ c.all.ensures.ran (YieldsList-from_range 0 7 7 refl refl) (λ x b q k. search (rules, tests))
+    ∙ all_range (kinds_in c.args.votes.now) 7

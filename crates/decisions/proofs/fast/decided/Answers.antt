@@ -1,25 +1,24 @@
 -- `decisions::fast::decided` meets its contract: each test decides as the definition does, and what may still come is not negative.
-use mathlib.Core.Path.{◌≡◌, refl, ap, sym, ◌∙◌}
+use mathlib.Core.Path.{◌≡◌, ap, sym, ◌∙◌}
 use native.Mathlib.Omega.{arith}
+use Rattle.std.proofs.Common.{rules}
 use Rattle.base.proofs.ConfigLaws.{config_fits_each}
-use Rattle.votes.specs.Answer.{decision_of, committed}
 use Rattle.votes.specs.Identical.{most_equals}
-use Rattle.votes.specs.declared.answer.Step.TheVariants.{Committed}
+use Rattle.votes.specs.declared.answer.Decision.TheVariants.{Committed}
 use Rattle.votes.proofs.IdenticalLaws.{most_at_most, found_inside}
 use Rattle.decisions.proofs.FastLaws.{heard_at_most, fast_few, fast_avoided, fast_open, later_slow, later_wait, later}
-use Rattle.votes.proofs.HolderLaws.{decides_as}
 use Rattle.decisions.proofs.fast.decided.Goals as goal
 use Rattle.decisions.proofs.fast.decided.Goals.{else-identical-config, then-identical-config}
 
 pub returns-then-acks-config : goal.returns-then-acks-config
 returns-then-acks-config c =
     let a = c.args in
-    ap decision_of (sym (fast_few a.config a.avoided a.replied a.entries a.silent (omega (arith, c.count-acks.ensures))))
+    sym (fast_few a.config a.avoided a.replied a.entries a.silent (omega (arith, c.count-acks.ensures)))
 
 pub returns-then-avoided : goal.returns-then-avoided
 returns-then-avoided c =
     let a = c.args in
-    c.slow.ensures ∙ ap decision_of (sym (fast_avoided a.config a.avoided a.replied a.entries a.silent (omega (arith, c.count-acks.ensures)) c.if-avoided.true))
+    c.slow.ensures ∙ sym (fast_avoided a.config a.avoided a.replied a.entries a.silent (omega (arith, c.count-acks.ensures)) c.if-avoided.true)
 
 pub overflow_sub-config : goal.overflow_sub-config
 overflow_sub-config c =
@@ -41,8 +40,8 @@ overflow_add-identical c =
     let e : c.count_identical-identical.result.most ≡ most_equals a.entries a.replied = ap (λ x. x.most) c.count_identical-identical.ensures in
     omega (arith, w.seven, m, e)
 
-pub decides-requires : goal.decides-requires
-decides-requires c =
+pub decides-requires-clause-inside : goal.decides-requires-clause-inside
+decides-requires-clause-inside c =
     let a = c.args in
     found_inside a.entries a.replied _ _ c.count_identical-identical.ensures
 
@@ -51,10 +50,10 @@ returns c =
     let a = c.args in
     let d = sym c.count-acks.ensures in
     let m = ap (λ x. x.most) c.count_identical-identical.ensures in
-    let n : c.if-identical-config.otherwise ≡ decision_of (later a.config a.avoided a.replied a.entries a.silent) =
+    let n : c.if-identical-config.otherwise ≡ later a.config a.avoided a.replied a.entries a.silent =
     elim c.if-identical-config.branch [
-      | then-identical-config t ↦ t.otherwise-is ∙ t.slow-otherwise.ensures ∙ ap decision_of (sym (later_slow a.config a.avoided a.replied a.entries a.silent (rw (← m, ← c.gone-gone.ensures, d) t.if-identical-config.true)))
-      | else-identical-config t ↦ t.otherwise-is ∙ ap decision_of (sym (later_wait a.config a.avoided a.replied a.entries a.silent (rw (← m, ← c.gone-gone.ensures, d) t.if-identical-config.false)))
+      | then-identical-config t ↦ t.otherwise-is ∙ t.slow-otherwise.ensures ∙ sym (later_slow a.config a.avoided a.replied a.entries a.silent (rw (← m, ← c.gone-gone.ensures, d) t.if-identical-config.true))
+      | else-identical-config t ↦ t.otherwise-is ∙ sym (later_wait a.config a.avoided a.replied a.entries a.silent (rw (← m, ← c.gone-gone.ensures, d) t.if-identical-config.false))
     ] in
-    decides_as a.entries Committed committed (λ x. refl) _ _ _ _ _ c.decides.ensures (ap (λ x. x.first) c.count_identical-identical.ensures) n
-    ∙ ap decision_of (sym (fast_open a.config a.avoided a.replied a.entries a.silent (omega (arith, d)) c.if-avoided.false))
+    c.decides.ensures Committed (λ w d p. search rules)
+    ∙ rw (n, ap (λ x. x.first) c.count_identical-identical.ensures) (sym (fast_open a.config a.avoided a.replied a.entries a.silent (omega (arith, d)) c.if-avoided.false))

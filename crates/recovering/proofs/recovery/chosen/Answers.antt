@@ -1,38 +1,34 @@
 -- `recovering::recovery::chosen` meets its contract: each holder decides over what comes after it.
-use mathlib.Core.Path.{refl, ap, sym, ◌∙◌}
+use mathlib.Core.Path.{sym, ◌∙◌}
 use native.Mathlib.Omega.{arith}
+use Rattle.std.proofs.Common.{rules}
 use Rattle.base.specs.declared.status.Status.TheVariants as status
-use Rattle.votes.specs.Answer.{decision_of, committed, accepting, pre_accepting}
-use Rattle.recovering.specs.Recovery.{highest_vote, group_by}
-use Rattle.votes.specs.declared.answer.Step.TheVariants as step
+use Rattle.votes.specs.declared.answer.Decision.TheVariants as decision
 use Rattle.recovering.proofs.RecoveryLaws.{vote_inside, group_inside, choice_few, choice_open}
-use Rattle.votes.specs.Contents.{no_op_contents}
-use Rattle.votes.proofs.HolderLaws.{decides_as}
 use Rattle.recovering.proofs.recovery.chosen.Goals as goal
 
 pub returns-then-count-config : goal.returns-then-count-config
 returns-then-count-config c =
     let a = c.args in
-    ap decision_of (sym (choice_few a.counts a.config a.prepare a.acks a.voted a.statuses a.entries (omega (arith, c.count.ensures))))
+    sym (choice_few a.counts a.config a.prepare a.acks a.votes.voted a.votes.statuses a.votes.entries (omega (arith, c.count.ensures)))
 
-pub decides-over-requires : goal.decides-over-requires
-decides-over-requires c = let a = c.args in rw c.highest_vote.ensures (vote_inside status.PreAccepting a.voted a.statuses)
+pub decides-over-requires-clause-inside : goal.decides-over-requires-clause-inside
+decides-over-requires-clause-inside c = rw c.highest.ensures (vote_inside status.PreAccepting _ _)
 
-pub decides-grouped-requires : goal.decides-grouped-requires
-decides-grouped-requires c = let a = c.args in rw c.group.ensures (group_inside a.counts a.prepare a.voted a.statuses a.entries)
+pub decides-grouped-requires-clause-inside : goal.decides-grouped-requires-clause-inside
+decides-grouped-requires-clause-inside c = rw c.group.ensures (group_inside c.args.counts _ _ _ _)
 
-pub decides-accepting-requires : goal.decides-accepting-requires
-decides-accepting-requires c = let a = c.args in rw c.highest_vote-2.ensures (vote_inside status.Accepting a.voted a.statuses)
+pub decides-accepting-requires-clause-inside : goal.decides-accepting-requires-clause-inside
+decides-accepting-requires-clause-inside c = rw c.highest-2.ensures (vote_inside status.Accepting _ _)
 
-pub decides-requires : goal.decides-requires
-decides-requires c = let a = c.args in rw c.highest_vote-3.ensures (vote_inside status.Committed a.voted a.statuses)
+pub decides-requires-clause-inside : goal.decides-requires-clause-inside
+decides-requires-clause-inside c = rw c.highest-3.ensures (vote_inside status.Committed _ _)
 
 pub returns : goal.returns
 returns c =
     let a = c.args in
-    let e = a.entries in
-    let over = decides_as e step.PreAccepting pre_accepting (λ x. refl) (highest_vote status.PreAccepting a.voted a.statuses) (pre_accepting no_op_contents) _ _ _ c.decides-over.ensures c.highest_vote.ensures refl in
-    let grouping = decides_as e step.Accepting accepting (λ x. refl) (group_by a.counts a.prepare a.voted a.statuses e) _ _ _ _ c.decides-grouped.ensures c.group.ensures over in
-    let takes = decides_as e step.Accepting accepting (λ x. refl) (highest_vote status.Accepting a.voted a.statuses) _ _ _ _ c.decides-accepting.ensures c.highest_vote-2.ensures grouping in
-    decides_as e step.Committed committed (λ x. refl) (highest_vote status.Committed a.voted a.statuses) _ _ _ _ c.decides.ensures c.highest_vote-3.ensures takes
-    ∙ ap decision_of (sym (choice_open a.counts a.config a.prepare a.acks a.voted a.statuses e (omega (arith, c.count.ensures))))
+    let over = c.decides-over.ensures decision.PreAccepting (λ w d p. search rules) in
+    let grouped = c.decides-grouped.ensures decision.Accepting (λ w d p. search rules) in
+    let accepting = c.decides-accepting.ensures decision.Accepting (λ w d p. search rules) in
+    c.decides.ensures decision.Committed (λ w d p. search rules)
+    ∙ rw (accepting, grouped, over, c.highest.ensures, c.group.ensures, c.highest-2.ensures, c.highest-3.ensures) (sym (choice_open a.counts a.config a.prepare a.acks a.votes.voted a.votes.statuses a.votes.entries (omega (arith, c.count.ensures))))

@@ -11,7 +11,7 @@ use Rattle.votes.specs.Identical.{same_said, occurrences_in, first_enough, most_
 use Rattle.votes.proofs.HolderLaws.{lowest_none, lowest_in, lowest_out}
 use Rattle.votes.proofs.IdenticalLaws.{left_first, left_listed, left_times, left_without, still_left, still_most, still_first, sym_said, trans_said, enough_there, enough_not, counted_in}
 use Rattle.votes.proofs.identical.count_identical.Goals as goal
-use Rattle.votes.proofs.identical.count_identical.Goals.{then-left-r, else-left-r, then-enough-count, else-enough-count}
+use Rattle.votes.proofs.identical.count_identical.Goals.{then-left-r, else-left-r, then-enough-group, else-enough-group}
 
 pub loop-r-init : goal.loop-r-init
 loop-r-init c =
@@ -32,16 +32,17 @@ loop-r-preserved c =
       | then-left-r t ↦
           let x = t.if-left-r.true in
           let y = left_listed (marked l) (same_said e) sy tr (marked m) r i.1 h x in
-          let n : t.group_of-group.result.count ≡ occurrences e l r = ap (λ g. g.count) t.group_of-group.ensures ∙ left_times (marked l) (same_said e) sy tr (marked m) r i.1 h x in
-          let f : marked c.if-left-r.left ≡ marked (list_below 7 (other_than e m r)) = ap marked (t.left-is ∙ ap (λ g. g.left) t.group_of-group.ensures) in (
+          let n : t.group_of-group.result.count ≡ occurrences e l r = ap (λ x. x.count) t.group_of-group.ensures ∙ left_times (marked l) (same_said e) sy tr (marked m) r i.1 h x in
+          let g : t.max-most.result ≡ max c.loop-r.most t.group_of-group.result.count = search rules in
+          let f : marked c.if-left-r.left ≡ marked (list_below 7 (other_than e m r)) = ap marked (t.left-is ∙ ap (λ x. x.left) t.group_of-group.ensures) in (
             omega arith,
             λ q k. ap (λ p. p q) f ∙ below_at_lem 7 (other_than e m r) q false k ∙ left_without (marked l) (same_said e) sy tr (marked m) r i.1 h x q k,
             t.first-is
-                ∙ (elim t.if-enough-count.branch [
-                  | then-enough-count u ↦ u.first-is ∙ u.or-first.ensures ∙ lowest_in _ r c.loop-r.first (enough_there e l r y _ n _ u.if-enough-count.true) i.2
-                  | else-enough-count u ↦ u.first-is ∙ lowest_out _ r c.loop-r.first (enough_not e l r y _ n _ u.if-enough-count.false) i.2
+                ∙ (elim t.if-enough-group.branch [
+                  | then-enough-group u ↦ u.first-is ∙ u.or-first.ensures ∙ lowest_in _ r c.loop-r.first (enough_there e l r y _ n _ u.if-enough-group.true) i.2
+                  | else-enough-group u ↦ u.first-is ∙ lowest_out _ r c.loop-r.first (enough_not e l r y _ n _ u.if-enough-group.false) i.2
                 ]),
-            t.most-is ∙ greatest_more (occurrences_in e l) r c.loop-r.most _ i.3 (t.greater-most.ensures ∙ ap (max c.loop-r.most) (counted_in e l r y _ n)),
+            t.most-is ∙ greatest_more (occurrences_in e l) r c.loop-r.most _ i.3 (g ∙ ap (max c.loop-r.most) (counted_in e l r y _ n)),
           )
       | else-left-r t ↦ (
         omega arith,

@@ -1,19 +1,22 @@
--- `votes::contents::Contents::same` meets its contract: sequence, then dependencies, then batch.
+-- `votes::contents::Contents::same` meets its contract: sequence, dependencies and batch, each by its own test.
 use mathlib.Core.Path.{sym, ◌∙◌}
 use borrow.Author.Tests.{eq-eqb, ne_eqb}
 use Rattle.votes.specs.Contents.{same_contents}
 use Rattle.votes.proofs.contents.Contents.same.Goals as goal
+use Rattle.votes.proofs.contents.Contents.same.Goals.{then-self-other, else-self-other}
 
-pub returns-then-self-other : goal.returns-then-self-other
+pub returns-then-same : goal.returns-then-same
 unfolding same_contents
-returns-then-self-other c = simp (ne_eqb _ _ c.if-self-other.true)
+returns-then-same c =
+    elim c.if-self-other.branch [
+      | then-self-other w ↦ rw (eq-eqb _ _ w.if-self-other.true, sym w.same.ensures ∙ sym w.value-is ∙ c.if-same.true) c.same-then-same.ensures
+      | else-self-other w ↦ let e = ne_eqb _ _ w.if-self-other.false in let f = sym w.value-is ∙ c.if-same.true in cc
+    ]
 
-pub returns-then-not-same : goal.returns-then-not-same
+pub returns-else-same : goal.returns-else-same
 unfolding same_contents
-returns-then-not-same c = let e = sym c.same.ensures ∙ c.if-not-same.true in simp (eq-eqb _ _ c.if-self-other.false, e)
-
-pub returns : goal.returns
-unfolding same_contents
-returns c =
-    let e = sym c.same.ensures ∙ c.if-not-same.false in
-    simp (eq-eqb _ _ c.if-self-other.false, e) c.same-2.ensures
+returns-else-same c =
+    elim c.if-self-other.branch [
+      | then-self-other w ↦ rw (eq-eqb _ _ w.if-self-other.true, sym w.same.ensures ∙ sym w.value-is ∙ c.if-same.false) c.if-same.false
+      | else-self-other w ↦ let e = ne_eqb _ _ w.if-self-other.false in rw e c.if-same.false
+    ]

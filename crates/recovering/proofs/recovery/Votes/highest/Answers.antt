@@ -1,4 +1,4 @@
--- `recovering::recovery::highest_vote` meets its contract: the highest so far that has such a vote.
+-- `recovering::recovery::Votes::highest` meets its contract: the highest so far that has such a vote.
 use mathlib.Core.Path.{◌≡◌, sym, ◌∙◌}
 use Prim.Native.Nat.{◌+◌}
 use native.Mathlib.Omega.{arith}
@@ -6,8 +6,8 @@ use borrow.Author.Rules.{rules}
 use Rattle.votes.specs.Holder.{highest_below}
 use Rattle.recovering.specs.Recovery.{vote_at, highest_vote}
 use Rattle.votes.proofs.HolderLaws.{highest_none, highest_in, highest_out}
-use Rattle.recovering.proofs.recovery.highest_vote.Goals as goal
-use Rattle.recovering.proofs.recovery.highest_vote.Goals.{else-is_vote, then-is_vote}
+use Rattle.recovering.proofs.recovery.Votes.highest.Goals as goal
+use Rattle.recovering.proofs.recovery.Votes.highest.Goals.{else-is_vote, then-is_vote}
 
 pub loop-r-init : goal.loop-r-init
 loop-r-init c = (search rules, highest_none _)
@@ -15,7 +15,7 @@ loop-r-init c = (search rules, highest_none _)
 pub loop-r-preserved : goal.loop-r-preserved
 loop-r-preserved c =
     let a = c.args in
-    let p = vote_at a.wanted a.voted a.statuses in
+    let p = vote_at a.wanted a.self.voted a.self.statuses in
     let i = c.loop-r.r in
     let inv = c.loop-r.invariant.1 in
     let e = c.is_vote.ensures in
