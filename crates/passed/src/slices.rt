@@ -5,7 +5,7 @@ ghost use Rattle.passed.specs.Slices.{marks_known, config_of};
 use base::config::Config;
 use octets::known::each_below;
 
-// A size has 64 bits, so every number is one.
+// A size has 64 bits, so every number is one: std has no From here, and its TryFrom answers a Result that never is an Err.
 pub fn size(number: u64) -> usize
     ensures { result ≡ number }
 {
