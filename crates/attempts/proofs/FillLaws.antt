@@ -1,29 +1,52 @@
 -- The arrays that an attempt gathers, as they are filled.
 use mathlib.Core.Path.{◌≡◌, refl, ap, sym, ◌∙◌}
-use mathlib.Core.Bool.{Bool, true, false, not}
-use mathlib.Core.List.{List, [], ◌∷◌}
+use mathlib.Core.Bool.{Bool, true, false}
+use mathlib.Core.List.{List, [], ◌∷◌, ◌++◌, append_assoc}
 use Prim.Native.Nat.{ℕ, zero, suc, ◌+◌, ◌*◌, ◌/◌, ◌%◌, ◌<◌, ◌≤◌}
 use native.Mathlib.Omega.{arith}
-use lib.ListN.{length, get_or, set, replicate, length-replicate}
+use lib.ListN.{length, get_or, set, take, drop, replicate, length-replicate}
 use borrow.Author.Tests.{lt-ltb, le-ltb}
-use lib.Seq.{sets}
-use Rattle.base.specs.Below.{list_below}
+use lib.Seq.{sets, sets-eq, ext_get_or}
+use borrow.Rule.Slice.PartMut.{put_mid}
+use Rattle.std.proofs.lemmas.List.{drop-drop}
+use denote.Param.Members.{Mut, Called}
+use Rattle.std.specs.Array.{IsFromFnResult}
+use Rattle.std.specs.List.{list_all, range_with_len}
+use Rattle.std.proofs.lemmas.List.FromFn.{length-range_with_len, get_or-range_with_len}
+use Rattle.base.specs.Below.{all_below, list_below}
+use Rattle.base.proofs.Chains.{all_same, all_listed, made_at}
 use Rattle.base.proofs.Lists.{replicate_at, sets_append}
-use Rattle.base.proofs.Loops.{mix, mix_next, length_below, fill_more, fill_keep, fill_all}
-use Rattle.slots.specs.Slot.{blank_slot, is_executed, executed}
+use Rattle.base.proofs.Loops.{mix, mix_next, length_below, below_at_lem, fill_more, fill_keep, fill_all}
+use Rattle.slots.specs.Slot.{blank_slot, executed}
 use Rattle.slots.specs.declared.slot.Slot.{Slot}
 use Rattle.deps.specs.Sets.{number}
 use Rattle.table.specs.Table.{len_of, slot_no, with_slots}
 use Rattle.table.specs.declared.table.Table.{Table}
 use Rattle.base.specs.Marks.{marked}
-use Rattle.attempts.specs.Reads.{dep_of_no, deps_of, seqs_of}
-use Rattle.attempts.specs.Attempt.{is_waiting, waiting_in, ran_no, ran_with}
+use Rattle.attempts.specs.Reads.{dep_of_no, deps_of}
+use Rattle.attempts.specs.Attempt.{ran_no, ran_with}
+
+-- what `array::from_fn` makes, where each call gives what v does and leaves the closure as it was
+module _ {A F : Type 0} (g : Mut F (ℕ × Unit {0}) A) (v : ℕ → A) (f : F) (d : A) (call : (i : ℕ) (y : A) (q : F) → Called g f (i, tt) y q → (y ≡ v i) × (q ≡ f)) where
+  pub made_below : (n : ℕ) (ys : List A) → IsFromFnResult g f ys n → ys ≡ list_below n v
+  made_below n ys m = ext_get_or d ys (list_below n v) (m.long ∙ sym (length_below n v))
+      (λ i h. let lt : i < n = omega (arith, m.long) in made_at g v f call n ys m i d lt ∙ sym (below_at_lem n v i d lt))
+
+-- a test of each number of a range
+pub all_ranged : (test : ℕ → Bool) (n : ℕ) → list_all test (range_with_len 0 n) ≡ all_below n test
+all_ranged test n =
+    all_listed test (range_with_len 0 n) 0
+    ∙ rw (length-range_with_len 0 n) (all_same _ test n (λ i h. let z : 0 + i ≡ i = omega arith in ap test (get_or-range_with_len 0 n i 0 h ∙ z)))
 
 -- one number more of those laid from a place on
 pub sets_next : (l : List ℕ) (k n : ℕ) (f : ℕ → ℕ) → set (sets l k (list_below n f)) (k + n) (f n) ≡ sets l k (list_below (suc n) f)
 unfolding list_below
 sets_next l k n f =
     ap (λ (x : ℕ). set (sets l k (list_below n f)) (k + x) (f n)) (sym (length_below n f)) ∙ sets_append l k (list_below n f) (f n ∷ [])
+
+-- what is copied into a part is laid there
+pub part_sets : (l ys vs : List ℕ) (a k : ℕ) → ys ≡ vs → length vs ≡ k → a + k ≤ length l → put_mid a k l ys ≡ sets l a vs
+part_sets l ys vs a k e len room = ap (put_mid a k l) e ∙ ap (λ (x : List ℕ). take a l ++ (vs ++ x)) (drop-drop k a l ∙ ap (λ (n : ℕ). drop (a + n) l) (sym len)) ∙ sym (append_assoc (take a l) vs (drop (a + length vs) l)) ∙ sym (sets-eq vs l a (omega arith))
 
 module _ (t : Table) where
   -- the first k numbers
@@ -70,33 +93,6 @@ module _ (t : Table) where
   pub deps_all : (k : ℕ) → 1568 ≤ k → deps_to k ≡ deps_of t
   unfolding deps_of
   deps_all k l = fill_all 1568 (λ k. dep_of_no t (k / 7) (k % 7)) (replicate 1568 0) (length-replicate {A = ℕ} 1568 0) k l
-
-  abbrev pub seqs_to : ℕ → List ℕ
-  seqs_to i = mix (seqs_of t) (replicate 224 0) i
-
-  pub seqs_more : (i v : ℕ) → i < 224 → v ≡ (slot_no t i).seq → set (seqs_to i) i v ≡ seqs_to (i + 1)
-  unfolding seqs_of
-  seqs_more i v l e = fill_more 224 (λ i. (slot_no t i).seq) (replicate 224 0) (length-replicate {A = ℕ} 224 0) i v l e
-
-  pub seqs_all : (i : ℕ) → 224 ≤ i → seqs_to i ≡ seqs_of t
-  unfolding seqs_of
-  seqs_all i l = fill_all 224 (λ i. (slot_no t i).seq) (replicate 224 0) (length-replicate {A = ℕ} 224 0) i l
-
-  module _ (F : List ℕ) where
-    abbrev pub waiting_to : ℕ → List Bool
-    waiting_to i = mix (waiting_in t F) (replicate 224 false) i
-
-    pub waiting_reached : (i : ℕ) (b : Bool) → i < 224 → i % 32 < get_or F (i / 32) 0 → b ≡ is_executed (slot_no t i) → set (waiting_to i) i (not b) ≡ waiting_to (i + 1)
-    unfolding waiting_in
-    waiting_reached i b l h e = fill_more 224 (is_waiting t F) (replicate 224 false) (length-replicate 224 false) i (not b) l (sym (rw (lt-ltb _ _ h, e)))
-
-    pub waiting_out : (i : ℕ) → i < 224 → get_or F (i / 32) 0 ≤ i % 32 → waiting_to i ≡ waiting_to (i + 1)
-    unfolding waiting_in
-    waiting_out i l h = fill_keep 224 (is_waiting t F) (replicate 224 false) (length-replicate 224 false) i false l (replicate_at 224 i false ∙ sym (rw (le-ltb _ _ h)))
-
-    pub waiting_all : (i : ℕ) → 224 ≤ i → waiting_to i ≡ waiting_in t F
-    unfolding waiting_in
-    waiting_all i l = fill_all 224 (is_waiting t F) (replicate 224 false) (length-replicate 224 false) i l
 
   module _ (marks : List Bool) (e : length t.slots ≡ 224) where
     abbrev pub ran_to : ℕ → List Slot

@@ -8,7 +8,10 @@ use native.Mathlib.Omega.{arith}
 use borrow.Author.Tests.{lt-ltb, le-ltb, le-leb, lt-leb, ltb-true, ltb-false, leb-true, leb-false}
 use lib.ListN.{length}
 use Rattle.base.specs.Answer.{number_of, is_refused}
+use Rattle.base.specs.Refusals as refusals
 use Rattle.base.specs.Refusals.{first_refusal, short_order, outside_bounds, no_replica, no_column}
+use Rattle.base.specs.declared.refusals.Refusal.{Refusal}
+use Rattle.base.specs.declared.refusals.Refusal.TheVariants.{OutsideBounds, NoReplica, NoColumn, BadDependency, BadBatch, OverLimit, NoSlot, ShortOrder, Cut, Unreadable, TooLong}
 use Rattle.base.specs.declared.answer.Answer.{Answer}
 use Rattle.base.specs.declared.answer.Answer.TheVariants.{Refused}
 use Rattle.base.proofs.Loops.{count_at_most}
@@ -21,6 +24,20 @@ use Rattle.attempts.specs.Reads.{has_run}
 use Rattle.attempts.specs.Refusal.{attempt_tests, attempt_refusal}
 use Rattle.attempts.specs.Attempt.{tried, attempt_on, order_on, unrun, attempt_or, order_or, attempt_of, attempt_order}
 use Rattle.attempts.proofs.AttemptLaws.{answer_cases}
+
+-- no refusal has the number 0
+pub number_some : (refusal : Refusal) → 0 < refusals.refusal_number refusal
+number_some OutsideBounds = omega arith
+number_some NoReplica = omega arith
+number_some NoColumn = omega arith
+number_some BadDependency = omega arith
+number_some BadBatch = omega arith
+number_some OverLimit = omega arith
+number_some NoSlot = omega arith
+number_some ShortOrder = omega arith
+number_some Cut = omega arith
+number_some Unreadable = omega arith
+number_some TooLong = omega arith
 
 -- when each number is given, in the order of the refusals
 pub data AttemptRefused (t : Table) (at : Place) (entries : ℕ) : ℕ → Type 0 where

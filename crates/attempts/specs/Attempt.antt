@@ -73,6 +73,10 @@ table_after answer t at = when_done answer (ran_with t (to_run t at)) t
 abbrev pub tried : Answer → Table → Place → Attempted
 tried answer t at = record { answer = answer; table = table_after answer t at; ran = length (written answer t at) }
 
+-- nothing ran
+abbrev pub nothing_ran : Answer → Table → Attempted
+nothing_ran answer t = record { answer = answer; table = t; ran = 0 }
+
 -- on a table and a slot that are not refused
 unfoldable pub attempt_on : Table → Place → Attempted
 attempt_on t at = tried (answer_of t at) t at

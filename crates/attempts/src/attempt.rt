@@ -3,7 +3,7 @@ ghost use Rattle.std.specs.Prelude.{◌≡◌, true, ◌+◌, ◌≤◌, ◌<◌
 ghost use Rattle.bounds.specs.Bounds.{table_fits};
 ghost use Rattle.table.specs.Place.{index_of};
 ghost use Rattle.attempts.specs.Reads.{has_run};
-ghost use Rattle.attempts.specs.Attempt.{unrun, attempt_on, order_on, attempt_of, attempt_order};
+ghost use Rattle.attempts.specs.Attempt.{nothing_ran, unrun, attempt_on, order_on, attempt_of, attempt_order};
 
 use super::{gather, refusal, waiting};
 use base::answer::Answer;
@@ -21,19 +21,28 @@ pub struct Attempted {
     pub ran: usize,
 }
 
+impl Attempted {
+    // No slot has run, and the table is as it was.
+    fn without_run(answer: Answer, table: Table) -> Attempted
+        ensures { result ≡ nothing_ran answer table }
+    {
+        Attempted {
+            answer,
+            table,
+            ran: 0,
+        }
+    }
+}
+
 // Runs the slot and all that it leads to that has not run, or nothing. The slots run stand in the order list from its first
 // entry on, as 32 * row + column, in the order in which they run.
 pub fn attempt(table: Table, at: Place, order: &mut [u8]) -> Attempted
     ensures result { result ≡ attempt_of table at (length order.old) }
     ensures list { order.new ≡ attempt_order table at order.old }
 {
-    let number = refusal::of_attempt(table, at, order.len());
-    if 0 < number {
-        return Attempted {
-            answer: Answer::Refused { number: number },
-            table: table,
-            ran: 0,
-        };
+    if let Err(refusal) = refusal::of_attempt(table, at, order.len()) {
+        let number = refusal.number();
+        return Attempted::without_run(Answer::Refused { number }, table);
     }
     attempt_from(table, at, order, 0)
 }
@@ -48,20 +57,12 @@ pub fn attempt_from(table: Table, at: Place, order: &mut [u8], from: usize) -> A
     ensures list { order.new ≡ order_on table at from order.old }
 {
     if has_run(table, at) {
-        return Attempted {
-            answer: Answer::Already,
-            table: table,
-            ran: 0,
-        };
+        return Attempted::without_run(Answer::Already, table);
     }
     let deps = gather::deps(table);
     let reached = reach(&deps, DepSet::EMPTY, at.row, at.col);
     if !waiting::is_below_bars(table, reached) {
-        return Attempted {
-            answer: Answer::NotYet,
-            table: table,
-            ran: 0,
-        };
+        return Attempted::without_run(Answer::NotYet, table);
     }
     let todo = waiting::waiting(table, reached);
     let seqs = gather::seqs(table);
@@ -78,9 +79,5 @@ fn has_run(table: Table, at: Place) -> bool
     requires col_bound { at.col < 32 }
     ensures { result ≡ has_run table (index_of at) }
 {
-    if !table.holds(at) {
-        return false;
-    }
-    let slot = table.slot(at);
-    slot.has_run()
+    table.holds(at) && table.slot(at).has_run()
 }

@@ -6,6 +6,7 @@ ghost use Rattle.deps.specs.Sets.{number};
 ghost use Rattle.attempts.specs.Reads.{deps_of, seqs_of};
 
 use deps::sets::DepSet;
+use std::array;
 use table::table::Table;
 
 // The dependency sets of all slots, seven numbers each; a slot that is not in the table has none.
@@ -13,13 +14,10 @@ pub(crate) fn deps(table: Table) -> [u8; 1568]
     ensures { result ≡ deps_of table }
 {
     let mut out = [0u8; 1568];
-    let mut i: usize = 0;
-    while i < 224 {
+    for i in 0..224 {
         if i % 32 < table.lens[i / 32] {
-            let slot = table.slots[i];
-            put_set(&mut out, i, slot.deps);
+            put_set(&mut out, i, table.slots[i].deps);
         }
-        i += 1;
     }
     out
 }
@@ -29,23 +27,12 @@ fn put_set(out: &mut [u8; 1568], i: usize, deps: DepSet)
     requires { i < 224 }
     ensures { out.new ≡ sets out.old (7 * i) (list_below 7 (number deps)) }
 {
-    let mut row: usize = 0;
-    while row < 7 {
-        out[7 * i + row] = deps.cols[row];
-        row += 1;
-    }
+    out[7 * i..7 * i + 7].copy_from_slice(&deps.cols);
 }
 
 // The sequences of all slots.
 pub(crate) fn seqs(table: Table) -> [u32; 224]
     ensures { result ≡ seqs_of table }
 {
-    let mut out = [0u32; 224];
-    let mut i: usize = 0;
-    while i < 224 {
-        let slot = table.slots[i];
-        out[i] = slot.seq;
-        i += 1;
-    }
-    out
+    array::from_fn(|i| table.slots[i].seq)
 }

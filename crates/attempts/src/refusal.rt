@@ -1,18 +1,19 @@
-// The first refusal of an attempt, in the order of their numbers; 0 for none.
+// The first refusal of an attempt, in the order of their numbers.
 ghost use Rattle.std.specs.Prelude.{◌≡◌};
+ghost use Rattle.base.specs.Refusals.{refused_number};
 ghost use Rattle.attempts.specs.Refusal.{attempt_refusal};
 
-use base::refusals;
+use base::refusals::Refusal;
 use bounds::bounds::refusal;
 use table::place::Place;
 use table::table::Table;
 
 // entries: how many the order list has.
-pub(crate) fn of_attempt(table: Table, at: Place, entries: usize) -> u64
-    ensures { result ≡ attempt_refusal table at entries }
+pub(crate) fn of_attempt(table: Table, at: Place, entries: usize) -> Result<(), Refusal>
+    ensures { refused_number result ≡ attempt_refusal table at entries }
 {
     if entries < 224 {
-        return refusals::SHORT_ORDER;
+        return Err(Refusal::ShortOrder);
     }
     refusal(table, at)
 }

@@ -1,5 +1,5 @@
 -- `attempts::attempt::attempt_from` meets its contract: step by step.
-use mathlib.Core.Path.{sym, ◌∙◌}
+use mathlib.Core.Path.{◌∙◌}
 use Rattle.base.proofs.Tests.{passed, failed}
 use Rattle.attempts.proofs.StepLaws.{step_already, step_notyet, step_start, step_room, step_done}
 use Rattle.attempts.proofs.attempt.attempt_from.Goals as goal
@@ -7,7 +7,7 @@ use Rattle.attempts.proofs.attempt.attempt_from.Goals as goal
 pub returns-then-has_run : goal.returns-then-has_run
 returns-then-has_run c =
     let e = step_already c.args.table c.args.at c.args.from c.args.order.now (passed c.has_run.ensures c.if-has_run.true) in
-    record { result = e.0; list = e.1 }
+    record { result = c.without_run.ensures ∙ e.0; list = e.1 }
 
 pub reach-reached-requires-clause-valid : goal.reach-reached-requires-clause-valid
 reach-reached-requires-clause-valid c = (step_start c.args.table c.requires.table_value c.deps-deps.result c.deps-deps.ensures c.args.at.row c.args.at.col).0
@@ -19,7 +19,7 @@ pub returns-then-not-is_below_bars : goal.returns-then-not-is_below_bars
 returns-then-not-is_below_bars c =
     let e = step_notyet c.args.table c.args.at c.args.from c.args.order.now (failed c.has_run.ensures c.if-has_run.false)
     c.deps-deps.result c.reach-reached.result.cols c.deps-deps.ensures c.reach-reached.ensures (failed c.is_below_bars.ensures c.if-not-is_below_bars.true) in
-    record { result = e.0; list = e.1 }
+    record { result = c.without_run-then-not-is_below_bars.ensures ∙ e.0; list = e.1 }
 
 pub write-end-requires-clause-valid : goal.write-end-requires-clause-valid
 write-end-requires-clause-valid c = (step_start c.args.table c.requires.table_value c.deps-deps.result c.deps-deps.ensures c.args.at.row c.args.at.col).0

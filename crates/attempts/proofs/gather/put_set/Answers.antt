@@ -1,23 +1,20 @@
--- `attempts::gather::put_set` meets its contract: the numbers of the rows so far are laid.
-use mathlib.Core.Path.{refl, ap, ◌∙◌}
-use mathlib.Core.List.{List}
-use Prim.Native.Nat.{ℕ, ◌+◌, ◌*◌}
+-- `attempts::gather::put_set` meets its contract: the set's numbers are copied into its place.
+use mathlib.Core.Path.{◌≡◌, sym, ◌∙◌}
+use Prim.Native.Nat.{◌+◌, ◌*◌, ◌-◌}
 use native.Mathlib.Omega.{arith}
-use lib.ListN.{set}
-use lib.Seq.{sets}
+use lib.ListN.{length}
+use lib.Seq.{ext_get_or}
 use borrow.Author.Rules.{rules}
 use Rattle.base.specs.Below.{list_below}
+use Rattle.base.proofs.Loops.{length_below, below_at_lem}
 use Rattle.deps.specs.Sets.{number}
-use Rattle.attempts.proofs.FillLaws.{sets_next}
+use Rattle.attempts.proofs.FillLaws.{part_sets}
 use Rattle.attempts.proofs.gather.put_set.Goals as goal
 
-pub loop-row-init : goal.loop-row-init
-unfolding list_below
-loop-row-init c = (search rules, refl)
-
-pub loop-row-preserved : goal.loop-row-preserved
-loop-row-preserved c =
-    let l = c.loop-row in
+pub returns : goal.returns
+returns c =
     let a = c.args in
-    let more : ℕ → List ℕ = λ n. sets a.out.now (7 * a.i) (list_below n (number a.deps)) in
-    (search rules, ap (λ (x : List ℕ). set x (7 * a.i + l.row) (number a.deps l.row)) l.invariant.1 ∙ sets_next _ _ l.row (number a.deps) ∙ ap more (omega arith))
+    let seven : length a.deps.cols ≡ 7 = search rules in
+    let long = length_below 7 (number a.deps) in
+    let each : a.deps.cols ≡ list_below 7 (number a.deps) = ext_get_or 0 a.deps.cols (list_below 7 (number a.deps)) (seven ∙ sym long) (λ i lt. sym (below_at_lem 7 (number a.deps) i 0 (omega arith))) in
+    part_sets a.out.now c.copy_from_slice.new.self (list_below 7 (number a.deps)) (7 * a.i) (7 * a.i + 7 - 7 * a.i) (c.copy_from_slice.ensures.after ∙ each) (omega (arith, long)) (omega arith)
