@@ -1,5 +1,5 @@
 pub mod ListLaws
-mod MadeLaws
+pub mod MadeLaws
 mod ReadyLaws
 mod RuleLaws
 mod BlockLaws

@@ -1,4 +1,3 @@
 pub mod Bars
 pub mod Attempts
 pub mod Committed
-pub mod Tails

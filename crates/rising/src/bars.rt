@@ -3,6 +3,7 @@ ghost use Rattle.std.specs.Prelude.{◌≡◌, true, ◌+◌, ◌<◌};
 ghost use Rattle.bounds.specs.Bounds.{table_fits};
 ghost use Rattle.rising.specs.Bars.{risen_bar, with_bar};
 
+use base::status::Status;
 use table::place::Place;
 use table::table::Table;
 
@@ -12,16 +13,12 @@ pub(crate) fn risen(table: Table, row: usize) -> usize
     requires row_bound { row < 7 }
     ensures { result ≡ risen_bar table row }
 {
-    let mut col = table.bars[row];
-    while col < table.lens[row] {
-        let slot = table.slots[32 * row + col];
-        let status = slot.status;
-        if status.rank() < 3 {
+    for col in table.bars[row]..table.lens[row] {
+        if table.slots[32 * row + col].status.rank() < Status::Committed.rank() {
             return col;
         }
-        col += 1;
     }
-    col
+    table.lens[row]
 }
 
 // The bar right above the slot.
@@ -31,7 +28,6 @@ pub(crate) fn raise(table: Table, tail: Place) -> Table
     ensures { result ≡ with_bar table tail.row (tail.col + 1) }
 {
     let mut out = table;
-    let row = tail.row;
-    out.bars[row] = tail.col + 1;
+    out.bars[tail.row] = tail.col + 1;
     out
 }

@@ -21,24 +21,16 @@ pub fn committed(table: Table, at: Place, order: &mut [u8]) -> Ran
     ensures result { result ≡ ran_from 0 (on_committed table at) }
     ensures list { order.new ≡ sets order.old 0 (on_committed table at).wrote }
 {
-    let row = at.row;
-    let bars = table.bars;
-    let bar = bars[row];
+    let bar = table.bars[at.row];
     if at.col != bar {
-        return Ran {
-            table: table,
-            end: 0,
-        };
+        return Ran { table, end: 0 };
     }
-    let risen = bars::risen(table, row);
+    let risen = bars::risen(table, at.row);
     if risen <= bar {
-        return Ran {
-            table: table,
-            end: 0,
-        };
+        return Ran { table, end: 0 };
     }
     let tail = Place {
-        row: row,
+        row: at.row,
         col: risen - 1,
     };
     attempt_below(bars::raise(table, tail), tail, order)
@@ -54,25 +46,17 @@ fn attempt_below(table: Table, tail: Place, order: &mut [u8]) -> Ran
     ensures list { order.new ≡ sets order.old 0 (attempts_on table (attempted_from table tail)).wrote }
 {
     let tried = attempt_from(table, tail, order, 0);
-    let answer = tried.answer;
-    let after = tried.table;
-    if is_not_yet(answer) {
+    if is_not_yet(tried.answer) {
         return Ran {
-            table: after,
+            table: tried.table,
             end: tried.ran,
         };
     }
-    tails::attempt_tails(after, order, tried.ran)
+    tails::attempt_tails(tried.table, order, tried.ran)
 }
 
 fn is_not_yet(answer: Answer) -> bool
     ensures { result ≡ is_not_yet answer }
 {
-    match answer {
-        Answer::Done => false,
-        Answer::Ignored => false,
-        Answer::NotYet => true,
-        Answer::Already => false,
-        Answer::Refused { number: _ } => false,
-    }
+    matches!(answer, Answer::NotYet)
 }

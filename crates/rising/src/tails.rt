@@ -1,13 +1,14 @@
 // The attempts below the bars.
-ghost use Rattle.std.specs.Prelude.{◌≡◌, true, ◌+◌, ◌≤◌, ◌<◌, length};
+ghost use Rattle.std.specs.Prelude.{◌≡◌, true, ℕ, ◌+◌, ◌≤◌, ◌<◌, [], ◌∷◌, length, get_or, None, option_to_list};
 ghost use Rattle.std.proofs.lemmas.List.Edits.{sets};
 ghost use Rattle.bounds.specs.Bounds.{table_fits};
 ghost use Rattle.attempts.specs.Attempt.{unrun};
 ghost use Rattle.rising.specs.Attempts.{attempts_on, ran_from};
-ghost use Rattle.rising.specs.Committed.{tails_below};
-ghost use Rattle.rising.specs.Tails.{tail_number, tail_numbers, place_in};
+ghost use Rattle.rising.specs.Committed.{tail_in, tails_below};
 
 use attempts::attempt::attempt_from;
+use base::status::Status;
+use std::array;
 use table::place::Place;
 use table::table::Table;
 
@@ -25,73 +26,50 @@ pub(crate) fn attempt_tails(table: Table, order: &mut [u8], from: usize) -> Ran
     ensures result { result ≡ ran_from from (attempts_on table (tails_below table 7)) }
     ensures list { order.new ≡ sets order.old from (attempts_on table (tails_below table 7)).wrote }
 {
-    let tails = tails(table);
-    let mut ran = Ran {
-        table: table,
-        end: from,
-    };
-    let mut left: usize = 7;
-    while 0 < left {
-        let row = 7 - left;
-        ran = attempt_tail(ran, row, tails[row], order);
-        left -= 1;
+    let mut ran = Ran { table, end: from };
+    for tail in tails(table) {
+        if let Some(at) = tail {
+            ran = attempt_tail(ran, at, order);
+        }
     }
     ran
 }
 
-// Per row 0 for nothing, c + 1 for a slot of column c right below the bar that is Committed and has not run.
-fn tails(table: Table) -> [usize; 7]
-    ensures { result ≡ tail_numbers table }
+// In row order each row's slot right below the bar that is Committed and has not run.
+fn tails(table: Table) -> [Option<Place>; 7]
+    ensures { (row : ℕ) → row < 7 → option_to_list (get_or result row None) ≡ tail_in table row }
 {
-    let mut out = [0usize; 7];
-    let mut row: usize = 0;
-    while row < 7 {
-        out[row] = tail(table, row);
-        row += 1;
-    }
-    out
+    array::from_fn(|row| tail(&table, row))
 }
 
-fn tail(table: Table, row: usize) -> usize
+// A row's.
+fn tail(table: &Table, row: usize) -> Option<Place>
     requires { row < 7 }
-    ensures { result ≡ tail_number table row }
+    ensures { option_to_list result ≡ tail_in table.now row }
 {
     let bar = table.bars[row];
-    if bar < 1 {
-        return 0;
+    if bar < 1 || 32 < bar {
+        return None;
     }
-    if 32 < bar {
-        return 0;
+    let col = bar - 1;
+    if table.slots[32 * row + col].status != Status::Committed {
+        return None;
     }
-    let slot = table.slots[32 * row + (bar - 1)];
-    let status = slot.status;
-    if status.rank() != 3 {
-        return 0;
-    }
-    bar
+    Some(Place { row, col })
 }
 
-// The attempt on a row's slot; 0 for none.
-fn attempt_tail(ran: Ran, row: usize, number: usize, order: &mut [u8]) -> Ran
+// The attempt on a slot, written on where the list ends.
+fn attempt_tail(ran: Ran, at: Place, order: &mut [u8]) -> Ran
     requires table_value { table_fits ran.table ≡ true }
-    requires row_bound { row < 7 }
-    requires number_bound { number ≤ 32 }
+    requires row_bound { at.row < 7 }
+    requires col_bound { at.col < 32 }
     requires table_in_bounds { ran.end + unrun ran.table ≤ length order.old }
-    ensures result { result ≡ ran_from ran.end (attempts_on ran.table (place_in row number)) }
-    ensures list { order.new ≡ sets order.old ran.end (attempts_on ran.table (place_in row number)).wrote }
+    ensures result { result ≡ ran_from ran.end (attempts_on ran.table (at ∷ [])) }
+    ensures list { order.new ≡ sets order.old ran.end (attempts_on ran.table (at ∷ [])).wrote }
 {
-    if number < 1 {
-        return ran;
-    }
-    let at = Place {
-        row: row,
-        col: number - 1,
-    };
-    let table = ran.table;
-    let tried = attempt_from(table, at, order, ran.end);
-    let after = tried.table;
+    let tried = attempt_from(ran.table, at, order, ran.end);
     Ran {
-        table: after,
+        table: tried.table,
         end: ran.end + tried.ran,
     }
 }

@@ -9,20 +9,20 @@ pub loop-col-init : goal.loop-col-init
 loop-col-init c = ((table_fits_each c.args.table c.requires.table_value).bars_fit c.args.row c.requires.row_bound, search_begins c.args.table c.args.row)
 
 -- a row has at most 32 slots
-pub overflow_add-slot : goal.overflow_add-slot
-overflow_add-slot c = omega (arith, len_at_most c.args.table c.requires.table_value c.args.row c.requires.row_bound)
+pub overflow_add-row : goal.overflow_add-row
+overflow_add-row c = omega (arith, len_at_most c.args.table c.requires.table_value c.args.row c.requires.row_bound)
 
-pub offset_bounds-table-row-in-loop-col-2 : goal.offset_bounds-table-row-in-loop-col-2
-offset_bounds-table-row-in-loop-col-2 c = omega (arith, len_at_most c.args.table c.requires.table_value c.args.row c.requires.row_bound)
+pub offset_bounds-table-row-in-loop-col : goal.offset_bounds-table-row-in-loop-col
+offset_bounds-table-row-in-loop-col c = omega (arith, len_at_most c.args.table c.requires.table_value c.args.row c.requires.row_bound)
 
-pub bounds-table-row-in-loop-col-2 : goal.bounds-table-row-in-loop-col-2
-bounds-table-row-in-loop-col-2 c = omega (arith, len_at_most c.args.table c.requires.table_value c.args.row c.requires.row_bound)
+pub bounds-table-row-in-loop-col : goal.bounds-table-row-in-loop-col
+bounds-table-row-in-loop-col c = omega (arith, len_at_most c.args.table c.requires.table_value c.args.row c.requires.row_bound)
 
-pub returns-then-rank-lt3 : goal.returns-then-rank-lt3
-returns-then-rank-lt3 c = sym (c.loop-col.invariant.1 ∙ search_stops c.args.table c.args.row c.loop-col.col c.loop-col-test.true (omega (arith, c.rank.ensures)))
+pub returns-then-rank : goal.returns-then-rank
+returns-then-rank c = sym (c.loop-col.invariant.1 ∙ search_stops c.args.table c.args.row c.loop-col.col c.loop-col-test.true (omega (arith, c.rank.ensures, c.rank-in-loop-col.ensures)))
 
 pub loop-col-preserved : goal.loop-col-preserved
-loop-col-preserved c = (omega arith, c.loop-col.invariant.1 ∙ search_goes c.args.table c.args.row c.loop-col.col c.loop-col-test.true (omega (arith, c.rank.ensures)))
+loop-col-preserved c = (omega arith, c.loop-col.invariant.1 ∙ search_goes c.args.table c.args.row c.loop-col.col c.loop-col-test.true (omega (arith, c.rank.ensures, c.rank-in-loop-col.ensures)))
 
 pub returns : goal.returns
-returns c = sym (c.loop-col.invariant.1 ∙ search_ends c.args.table c.args.row c.loop-col.col (omega arith))
+returns c = sym (c.loop-col.invariant.1 ∙ search_ends c.args.table c.args.row c.loop-col.col (omega arith) ∙ omega arith)

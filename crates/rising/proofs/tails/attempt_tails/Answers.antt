@@ -1,46 +1,41 @@
 -- `rising::tails::attempt_tails` meets its contract: the rows so far, one after the other.
-use mathlib.Core.Path.{◌≡◌, ap, ◌∙◌}
-use mathlib.Core.List.{List}
-use Prim.Native.Nat.{ℕ, ◌+◌, ◌-◌}
+use mathlib.Core.Path.{◌≡◌, sym, ◌∙◌}
+use mathlib.Core.List.{[], ◌∷◌, append-nil}
 use native.Mathlib.Omega.{arith}
 use lib.ListN.{get_or}
-use Rattle.rising.specs.Committed.{tails_below}
-use Rattle.rising.specs.Tails.{tail_number, place_in}
-use Rattle.rising.proofs.AttemptsLaws.{Written, written_more, written_fits, written_room}
-use Rattle.rising.proofs.TailLaws.{tail_at, tail_low, tails_begin, tails_in_rows, tails_next, written_row}
+use Rattle.std.specs.Prelude.{None, option_to_list}
+use Rattle.rising.specs.Committed.{tail_in, tails_below}
+use Rattle.rising.proofs.AttemptsLaws.{written_more, written_fits, written_room}
+use Rattle.rising.proofs.TailLaws.{tails_begin, tails_in_rows, tails_next}
 use Rattle.rising.proofs.tails.attempt_tails.Goals as goal
+use Rattle.rising.proofs.tails.attempt_tails.Goals.{In-Some, in-Some, in_default}
 
-pub loop-left-init : goal.loop-left-init
-loop-left-init c = (omega arith, tails_begin c.args.table c.args.order.now c.args.from)
+pub loop-tail-init : goal.loop-tail-init
+loop-tail-init c = tails_begin c.args.table c.args.order.now c.args.from
 
 pub attempt_tail-ran-requires-clause-table_value : goal.attempt_tail-ran-requires-clause-table_value
 attempt_tail-ran-requires-clause-table_value c =
-    let l = c.loop-left in
-    let row = 7 - l.left in
-    written_fits c.args.table c.args.order.now c.args.from (tails_below c.args.table row) l.ran l.order c.requires.table_value (tails_in_rows c.args.table row (omega arith)) l.invariant.1
-
-pub attempt_tail-ran-requires-clause-number_bound : goal.attempt_tail-ran-requires-clause-number_bound
-attempt_tail-ran-requires-clause-number_bound c =
-    let row = 7 - c.loop-left.left in
-    let number = ap (λ (x : List ℕ). get_or x row 0) c.tails-tails.ensures ∙ tail_at c.args.table row (omega arith) in
-    omega (arith, number, tail_low c.args.table row)
+    let l = c.loop-tail in
+    written_fits c.args.table c.args.order.now c.args.from (tails_below c.args.table l.tail-index) l.ran l.order c.requires.table_value (tails_in_rows c.args.table l.tail-index (omega arith)) l.invariant
 
 pub attempt_tail-ran-requires-clause-table_in_bounds : goal.attempt_tail-ran-requires-clause-table_in_bounds
 attempt_tail-ran-requires-clause-table_in_bounds c =
-    let l = c.loop-left in
-    let row = 7 - l.left in
-    written_room c.args.table c.args.order.now c.args.from (tails_below c.args.table row) l.ran l.order c.requires.table_value (tails_in_rows c.args.table row (omega arith)) l.invariant.1 c.requires.table_in_bounds
+    let l = c.loop-tail in
+    written_room c.args.table c.args.order.now c.args.from (tails_below c.args.table l.tail-index) l.ran l.order c.requires.table_value (tails_in_rows c.args.table l.tail-index (omega arith)) l.invariant c.requires.table_in_bounds
 
-pub loop-left-preserved : goal.loop-left-preserved
-loop-left-preserved c =
-    let f = c.attempt_tail-ran in
-    let l = c.loop-left in
-    let tails = c.tails-tails in
+pub loop-tail-preserved : goal.loop-tail-preserved
+loop-tail-preserved c =
     let a = c.args in
-    let t = a.table in
-    let row = 7 - l.left in
-    let number : get_or tails.result row 0 ≡ tail_number t row = ap (λ (x : List ℕ). get_or x row 0) tails.ensures ∙ tail_at t row (omega arith) in
-    let next : row + 1 ≡ 7 - (l.left - 1) = omega arith in
-    let one = written_row t row (get_or tails.result row 0) number l.ran l.order _ _ f.ensures.result f.ensures.list in
-    let p = written_more t a.order.now a.from (tails_below t row) (place_in row (tail_number t row)) l.ran _ l.order _ l.invariant.1 one in
-    (omega arith, rw (tails_next t row, next) at p)
+    let l = c.loop-tail in
+    let row = l.tail-index in
+    let found : option_to_list (get_or c.tails-tail-items.result row None) ≡ tail_in a.table row = c.tails-tail-items.ensures row (omega arith) in
+    elim c.match-tail.branch [
+      | in-Some w ↦
+          let one : w.in-Some.at ∷ [] ≡ tail_in a.table row = rw w.in-Some.is at found in
+          let f = w.attempt_tail-ran in
+          let more = written_more a.table a.order.now a.from (tails_below a.table row) (w.in-Some.at ∷ []) l.ran f.result l.order f.new.order l.invariant (record { ran_is = f.ensures.result; list_is = f.ensures.list }) in
+          rw (w.ran-is, w.order-is) (rw (tails_next a.table row (w.in-Some.at ∷ []) one) at more)
+      | in_default w ↦
+          let none : [] ≡ tail_in a.table row = rw w.in_default.is at found in
+          rw (w.ran-is, w.order-is) (rw (sym (append-nil (tails_below a.table row)) ∙ tails_next a.table row [] none) at l.invariant)
+    ]

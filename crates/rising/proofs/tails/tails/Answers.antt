@@ -1,19 +1,10 @@
--- `rising::tails::tails` meets its contract: the numbers of the rows so far.
-use mathlib.Core.Path.{ap, ◌∙◌}
-use mathlib.Core.List.{List}
-use Prim.Native.Nat.{ℕ}
-use native.Mathlib.Omega.{arith}
-use lib.ListN.{set}
-use Rattle.rising.proofs.TailLaws.{tails_more, tails_all}
+-- `rising::tails::tails` meets its contract: what is found in each row.
+use mathlib.Core.Path.{◌≡◌}
+use borrow.Author.Rules.{rules}
+use Rattle.std.specs.Prelude.{None, option_to_list}
+use Rattle.rising.specs.Committed.{tail_in}
+use Rattle.order.proofs.MadeLaws.{each_made}
 use Rattle.rising.proofs.tails.tails.Goals as goal
 
-pub loop-row-preserved : goal.loop-row-preserved
-loop-row-preserved c =
-    let l = c.loop-row in
-    let a = c.args in (
-      omega arith,
-      ap (λ (x : List ℕ). set x l.row c.tail.result) l.invariant.1 ∙ tails_more a.table l.row c.tail.result (omega arith) c.tail.ensures,
-    )
-
 pub returns : goal.returns
-returns c = c.loop-row.invariant.1 ∙ tails_all c.args.table c.loop-row.row (omega arith)
+returns c = each_made _ _ c.from_fn.result None (λ row found. option_to_list found ≡ tail_in c.args.table row) (λ x y q k. search rules) 7 c.from_fn.ensures.items
