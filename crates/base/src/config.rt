@@ -2,7 +2,7 @@
 ghost use Rattle.std.specs.Prelude.{◌≡◌};
 ghost use Rattle.base.specs.Config.{config_fits};
 
-#[derive(Clone, Copy)]
+#[derive(Clone, Copy, Debug, PartialEq, Eq)]
 pub struct Config {
     pub n: usize,
     pub own: usize,
@@ -12,24 +12,15 @@ pub struct Config {
 
 impl Config {
     // N 1 to 7, own below N, 1 <= simple <= super <= N.
+    #[tactic(auto, unfolding(crate::specs::Config::config_fits))]
     pub fn fits(self) -> bool
         ensures { result ≡ config_fits self }
     {
-        if 7 < self.n {
-            return false;
-        }
-        if self.n <= self.own {
-            return false;
-        }
-        if self.simple < 1 {
-            return false;
-        }
-        if self.sup < self.simple {
-            return false;
-        }
-        if self.n < self.sup {
-            return false;
-        }
-        true
+        1 <= self.n
+            && self.n <= 7
+            && self.own < self.n
+            && 1 <= self.simple
+            && self.simple <= self.sup
+            && self.sup <= self.n
     }
 }

@@ -6,13 +6,11 @@ ghost use Rattle.base.specs.Marks.{count_of, marks_fit};
 pub fn count(marks: [bool; 7]) -> usize
     ensures { result ≡ count_of marks }
 {
-    let mut number: usize = 0;
-    let mut r: usize = 0;
-    while r < 7 {
-        if marks[r] {
+    let mut number = 0;
+    for mark in marks {
+        if mark {
             number += 1;
         }
-        r += 1;
     }
     number
 }
@@ -21,12 +19,10 @@ pub fn count(marks: [bool; 7]) -> usize
 pub fn fit(marks: [bool; 7], n: usize) -> bool
     ensures { result ≡ marks_fit n marks }
 {
-    let mut r: usize = n;
-    while r < 7 {
+    for r in n..7 {
         if marks[r] {
             return false;
         }
-        r += 1;
     }
     true
 }

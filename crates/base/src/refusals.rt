@@ -2,7 +2,7 @@
 ghost use Rattle.std.specs.Prelude.{◌≡◌};
 ghost use Rattle.base.specs.Refusals.{refusal_number};
 
-#[derive(Clone, Copy, PartialEq, Eq)]
+#[derive(Clone, Copy, Debug, PartialEq, Eq)]
 pub enum Refusal {
     OutsideBounds, // a configuration or table outside the bounds, or a bar past its row's slots
     NoReplica, // a peer, row, reply, vote, ack or silent replica at N or more

@@ -8,6 +8,3 @@ use Rattle.base.proofs.marks.fit.Given as goal
 
 abbrev pub invariant-loop-r : goal.invariant-loop-r
 invariant-loop-r l = (l.n ≤ l.r) × (all_below l.r (mark_fits l.n l.marks) ≡ true)
-
-abbrev pub decreases-loop-r : goal.decreases-loop-r
-decreases-loop-r l = 7 - l.r
