@@ -11,7 +11,7 @@ use Rattle.steps.specs.Calls.{Call, call_of}
 use Rattle.steps.specs.Step.{answer_to}
 use Rattle.reading.specs.Held.{held}
 use Rattle.reading.specs.Events.{event_in}
-use Rattle.reading.specs.declared.events.EventRead.{EventRead}
+use Rattle.reading.specs.Events.{EventRead}
 use Rattle.reading.proofs.HeldLaws.{call_back, read_held}
 use Rattle.bench_values.specs.Values.{number_after, first_in, read_code}
 

@@ -11,8 +11,8 @@ use Rattle.base.specs.Refusals.{unreadable}
 use Rattle.base.proofs.Loops.{both_true}
 use Rattle.groups.specs.Numbers.{Groups, whole, cut_off, none, number_in, landed, stopped, number_at}
 use Rattle.groups.specs.Cursor.{goes_on, number_from, held_to, number_within}
-use Rattle.groups.specs.declared.cursor.Cursor.{Cursor}
-use Rattle.groups.specs.declared.cursor.Number.{Number}
+use Rattle.groups.specs.Numbers.{Cursor}
+use Rattle.groups.specs.Numbers.{Number}
 
 module _ (s : List ℕ) (c : Cursor) where
   -- after a refusal nothing is read

@@ -14,8 +14,8 @@ use Rattle.base.specs.Refusals.{cut, unreadable}
 use Rattle.groups.specs.Numbers.{Bytes, Groups, whole, cut_off, none, number_in, number_at, bytes_of, read, stopped, landed}
 use Rattle.groups.specs.Cursor.{goes_on, number_from, held_to, number_within, Numbers, numbers_from}
 use Rattle.groups.specs.Reads.{Reads, Fit}
-use Rattle.groups.specs.declared.cursor.Cursor.{Cursor}
-use Rattle.groups.specs.declared.cursor.Number.{Number}
+use Rattle.groups.specs.Numbers.{Cursor}
+use Rattle.groups.specs.Numbers.{Number}
 use Rattle.groups.proofs.NumberLaws.{front_is, read_back, write_back}
 use Rattle.groups.proofs.CursorLaws.{from_stopped, from_place, held_stopped, held_in}
 

@@ -6,14 +6,14 @@ use Prim.Native.Nat.{ℕ, zero, suc, ◌+◌, ◌*◌, ◌-◌, ◌%◌, ◌/◌
 use native.Mathlib.Nat.{pow-succ', pow-le-pow_right}
 use native.Mathlib.Numerals.{add-one}
 use native.Mathlib.Omega.{arith}
-use borrow.Author.Tests.{lt-ltb, le-ltb, le-leb, lt-leb, leb-true}
+use borrow.Author.Tests.{lt-ltb, le-ltb, leb-true, ne_eqb}
 use lib.Dec.{ltb, leb}
 use lib.ListN.{length, get_or, drop, set, drop_of_length-le}
 use lib.Seq.{drop-cons, sets}
 use Rattle.base.proofs.Loops.{both_true}
-use Rattle.base.specs.Refusals.{cut, unreadable}
+use Rattle.base.specs.Refusals.{cut}
 use Rattle.groups.specs.Numbers.{Groups, whole, cut_off, none, low_group, last_group, later_in, number_in, number_at, stopped, read, landed, joined, bytes_in}
-use Rattle.groups.specs.declared.cursor.Number.{Number}
+use Rattle.groups.specs.Numbers.{Number}
 
 -- ---- 64 bits are enough
 
@@ -63,6 +63,10 @@ joins b at (whole v k) = let e : at + 1 + k ≡ at + suc k = omega arith in rw e
 joins b at cut_off = refl
 joins b at none = refl
 
+-- a refusal after a byte is that of the number
+pub joins_stopped : (b k : ℕ) → 0 < k → joined b (stopped k) ≡ stopped k
+joins_stopped b k h = rw (ne_eqb k 0 (λ e. omega arith))
+
 module _ (s : List ℕ) (at : ℕ) where
   pub later_cut : (left : ℕ) → length s ≤ at → stopped cut ≡ landed at (later_in left (drop at s))
   unfolding later_in
@@ -98,17 +102,6 @@ module _ (s : List ℕ) (at : ℕ) where
     pub number_more : 128 ≤ b → (x : Number) → x ≡ landed (at + 1) (later_in 8 (drop (at + 1) s)) → joined b x ≡ number_at s at
     unfolding number_at number_in
     number_more l x f = rw (f, joins b at (later_in 8 (drop (at + 1) s)), add-one at, drop-cons s at 0 h, ← e, le-ltb b 128 l)
-
--- ---- the last of several groups
-
-pub last_zero : (most b at : ℕ) → b < 1 → stopped unreadable ≡ landed at (last_group most b)
-last_zero most b at l = rw (lt-leb 1 b l)
-
-pub last_over : (most b at : ℕ) → 1 ≤ b → most < b → stopped unreadable ≡ landed at (last_group most b)
-last_over most b at l m = rw (le-leb 1 b l, lt-leb b most m)
-
-pub last_fits : (most b at next : ℕ) → 1 ≤ b → b ≤ most → at + 1 ≡ next → read b next ≡ landed at (last_group most b)
-last_fits most b at next l m e = rw (le-leb 1 b l, le-leb b most m, e)
 
 -- ---- one byte written
 

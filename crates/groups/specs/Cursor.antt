@@ -1,9 +1,7 @@
 -- One number after the other, up to the first refusal.
 use Rattle.std.specs.Prelude.{List, [], ◌∷◌, Bool, cond, ◌&&◌, leb, eqb, ℕ, zero, suc}
 use Rattle.base.specs.Refusals.{unreadable}
-use Rattle.groups.specs.Numbers.{stopped, number_at}
-use Rattle.groups.specs.declared.cursor.Cursor.{Cursor}
-use Rattle.groups.specs.declared.cursor.Number.{Number}
+use Rattle.groups.specs.Numbers.{Cursor, Number, stopped, number_at}
 
 abbrev pub goes_on : Cursor → Bool
 goes_on c = eqb c.refusal 0

@@ -1,3 +1,4 @@
 pub mod Numbers
 pub mod Cursor
 pub mod Reads
+pub mod Told

@@ -1,7 +1,6 @@
 -- Numbers of a trace: groups of seven bits, low group first, high bit set on all but the last, shortest form, at most 64 bits.
 use Rattle.std.specs.Prelude.{List, [], ◌∷◌, cond, ◌&&◌, ltb, leb, eqb, drop, get_or, ℕ, zero, suc, ◌+◌, ◌*◌, ◌/◌, ◌%◌, ◌<◌}
 use Rattle.base.specs.Refusals.{cut, unreadable}
-use Rattle.groups.specs.declared.cursor.Number.{Number}
 
 -- ---- the bytes of a number
 
@@ -47,6 +46,16 @@ number_in [] = cut_off
 number_in (b ∷ l) = cond (ltb b 128) (whole b 1) (low_group b (later_in 8 l))
 
 -- ---- the number at a place of a trace
+
+-- the place of the next byte; or the refusal that was met, of which 0 is none, and then no place
+pub record Cursor : Type 0 where
+  pub at : ℕ
+  pub refusal : ℕ
+
+-- what was read, and what is next; with a refusal it is 0
+pub record Number : Type 0 where
+  pub value : ℕ
+  pub cursor : Cursor
 
 abbrev pub read : ℕ → ℕ → Number
 read value next = record { value = value; cursor = record { at = next; refusal = 0 } }

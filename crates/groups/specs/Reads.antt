@@ -1,6 +1,6 @@
 -- From one place of a trace to another.
 use Rattle.std.specs.Prelude.{◌≡◌, List, [], ◌∷◌, ◌++◌, length, drop, ℕ, ◌+◌, ◌<◌, ◌^◌}
-use Rattle.groups.specs.declared.cursor.Cursor.{Cursor}
+use Rattle.groups.specs.Numbers.{Cursor}
 
 -- from the one place to the other the trace has exactly these bytes, and nothing was refused
 pub record Reads (s : List ℕ) (c : Cursor) (bytes : List ℕ) (d : Cursor) : Type 0 where

@@ -1,81 +1,67 @@
 // One number after the other, up to the first refusal.
 ghost use Rattle.std.specs.Prelude.{◌≡◌};
-ghost use Rattle.groups.specs.Numbers.{read, stopped};
-ghost use Rattle.groups.specs.Cursor.{number_from, number_within};
+ghost use Rattle.groups.specs.Cursor.{number_from, number_within, numbers_from};
+ghost use Rattle.groups.specs.Told.{standing, cursor_on, Took};
 
 use super::numbers::number_at;
-use base::refusals;
+use base::refusals::Refusal;
 
-// The place of the next byte; or the refusal that was met, of which 0 is none, and then no place. After one nothing is read.
+// A trace, and the place of the next byte or the refusal that was met. After one nothing is read.
 #[derive(Clone, Copy)]
-pub struct Cursor {
-    pub at: usize,
-    pub refusal: u64,
+pub struct Cursor<'a> {
+    pub trace: &'a [u8],
+    pub place: Result<usize, Refusal>,
 }
 
-// What was read, and what is next. With a refusal it is 0.
-#[derive(Clone, Copy)]
-pub struct Number {
-    pub value: u64,
-    pub cursor: Cursor,
-}
-
-impl Number {
-    pub(crate) fn read(value: u64, next: usize) -> Number
-        ensures { result ≡ read value next }
+impl<'a> Cursor<'a> {
+    // A cursor at a place of a trace.
+    pub fn on(trace: &'a [u8], at: usize) -> Cursor<'a>
+        ensures { result ≡ cursor_on trace.entry at }
     {
-        Number {
-            value: value,
-            cursor: Cursor {
-                at: next,
-                refusal: 0,
-            },
+        Cursor {
+            trace,
+            place: Ok(at),
         }
     }
 
-    pub(crate) fn stopped(refusal: u64) -> Number
-        ensures { result ≡ stopped refusal }
+    // The next number.
+    pub fn number(&mut self) -> Result<u64, Refusal>
+        ensures { let x = number_from self.old.trace.now (standing self.old.place) in Took self.old result self.new x.value x.cursor }
     {
-        Number {
-            value: 0,
-            cursor: Cursor {
-                at: 0,
-                refusal: refusal,
-            },
+        let at = self.place?;
+        match number_at(self.trace, at) {
+            Ok(number) => {
+                self.place = Ok(number.next);
+                Ok(number.value)
+            }
+            Err(refusal) => {
+                self.place = Err(refusal);
+                Err(refusal)
+            }
         }
-    }
-}
-
-impl Cursor {
-    pub const START: Cursor = Cursor { at: 0, refusal: 0 };
-
-    pub fn number(self, trace: &[u8]) -> Number
-        ensures { result ≡ number_from trace.now self }
-    {
-        if 0 < self.refusal {
-            return Number {
-                value: 0,
-                cursor: self,
-            };
-        }
-        number_at(trace, self.at)
     }
 
     // A number that stands for something only from least to most.
-    pub fn number_within(self, trace: &[u8], least: u64, most: u64) -> Number
-        ensures { result ≡ number_within least most trace.now self }
+    pub fn number_within(&mut self, least: u64, most: u64) -> Result<u64, Refusal>
+        ensures { let x = number_within least most self.old.trace.now (standing self.old.place) in Took self.old result self.new x.value x.cursor }
     {
-        let read = self.number(trace);
-        let cursor = read.cursor;
-        if 0 < cursor.refusal {
-            return read;
+        let value = self.number()?;
+        if value < least || most < value {
+            self.place = Err(Refusal::Unreadable);
+            return Err(Refusal::Unreadable);
         }
-        if read.value < least {
-            return Number::stopped(refusals::UNREADABLE);
+        Ok(value)
+    }
+
+    // So many numbers.
+    pub fn numbers<const N: usize>(&mut self) -> Result<[u64; N], Refusal>
+        ensures { let x = numbers_from N self.old.trace.now (standing self.old.place) in Took self.old result self.new x.values x.cursor }
+    {
+        self.place?;
+        let mut values = [0u64; N];
+        for value in values.iter_mut() {
+            *value = self.number()?;
         }
-        if most < read.value {
-            return Number::stopped(refusals::UNREADABLE);
-        }
-        read
+        Ok(values)
     }
 }

@@ -1,67 +1,75 @@
 // A number: groups of seven bits, low group first, the high bit set on all but the last, in the shortest form.
 ghost use Rattle.std.specs.Prelude.{◌≡◌, ◌+◌, ◌-◌, ◌≤◌, ◌<◌, ◌^◌, length, drop};
 ghost use Rattle.std.proofs.lemmas.List.Edits.{sets};
-ghost use Rattle.groups.specs.Numbers.{last_group, later_in, number_at, landed, joined, bytes_in, bytes_of};
+ghost use Rattle.groups.specs.Numbers.{last_group, later_in, number_at, read, landed, joined, bytes_in, bytes_of};
+ghost use Rattle.groups.specs.Told.{numbered};
 
-use super::cursor::Number;
-use base::refusals;
+use base::refusals::Refusal;
+
+// A number, and the place after it.
+#[derive(Clone, Copy, PartialEq, Eq)]
+pub struct Number {
+    pub value: u64,
+    pub next: usize,
+}
 
 // The number that begins at the place.
-pub fn number_at(trace: &[u8], at: usize) -> Number
-    ensures { result ≡ number_at trace.now at }
+pub fn number_at(trace: &[u8], at: usize) -> Result<Number, Refusal>
+    ensures { numbered result ≡ number_at trace.now at }
 {
     if trace.len() <= at {
-        return Number::stopped(refusals::CUT);
+        return Err(Refusal::Cut);
     }
-    let b = wide(trace[at]);
+    let b = u64::from(trace[at]);
     if b < 128 {
-        return Number::read(b, at + 1);
+        return Ok(Number {
+            value: b,
+            next: at + 1,
+        });
     }
-    with_group(b, later_at(trace, at + 1, 8))
+    let rest = later_at(trace, at + 1, 8)?;
+    Ok(with_group(b, rest))
 }
 
 // The groups after one with its high bit set; after the next so many may follow. The tenth of a number can only be 1.
-fn later_at(trace: &[u8], at: usize, left: usize) -> Number
+fn later_at(trace: &[u8], at: usize, left: usize) -> Result<Number, Refusal>
     requires { left ≤ 8 }
-    ensures { result ≡ landed at (later_in left (drop at trace.now)) }
+    ensures { numbered result ≡ landed at (later_in left (drop at trace.now)) }
 {
     if trace.len() <= at {
-        return Number::stopped(refusals::CUT);
+        return Err(Refusal::Cut);
     }
-    let b = wide(trace[at]);
+    let b = u64::from(trace[at]);
     if left == 0 {
         return last_group(b, 1, at + 1);
     }
     if b < 128 {
         return last_group(b, 127, at + 1);
     }
-    with_group(b, later_at(trace, at + 1, left - 1))
+    let rest = later_at(trace, at + 1, left - 1)?;
+    Ok(with_group(b, rest))
 }
 
 // The last of several groups, with the place after it: one of 0 would not be the shortest form.
-fn last_group(b: u64, most: u64, next: usize) -> Number
+fn last_group(b: u64, most: u64, next: usize) -> Result<Number, Refusal>
     requires { 1 ≤ next }
-    ensures { result ≡ landed (next - 1) (last_group most b) }
+    ensures { numbered result ≡ landed (next - 1) (last_group most b) }
 {
-    if b < 1 {
-        return Number::stopped(refusals::UNREADABLE);
+    if b < 1 || most < b {
+        return Err(Refusal::Unreadable);
     }
-    if most < b {
-        return Number::stopped(refusals::UNREADABLE);
-    }
-    Number::read(b, next)
+    Ok(Number { value: b, next })
 }
 
 // The seven low bits of a byte below what the groups after it are.
 fn with_group(b: u64, rest: Number) -> Number
     requires { rest.value < 2 ^ 57 }
-    ensures { result ≡ joined b rest }
+    ensures { read result.value result.next ≡ joined b (read rest.value rest.next) }
 {
-    let cursor = rest.cursor;
-    if 0 < cursor.refusal {
-        return rest;
+    Number {
+        value: 128 * rest.value + b % 128,
+        next: rest.next,
     }
-    Number::read(128 * rest.value + b % 128, cursor.at)
 }
 
 // Writes a number from a place on, and gives the place after it.
@@ -88,11 +96,4 @@ fn put_groups(out: &mut [u8], at: usize, number: u64, left: usize) -> usize
     }
     out[at] = (number % 128 + 128) as u8;
     put_groups(out, at + 1, number / 128, left - 1)
-}
-
-// A byte as a number; that it fits asks for no proof where it is read.
-fn wide(b: u8) -> u64
-    ensures { (result ≡ b) × (result < 256) }
-{
-    b as u64
 }

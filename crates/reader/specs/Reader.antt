@@ -1,10 +1,10 @@
 -- A trace and a place in it: the event that stands there, the place of what comes next, and how much comes.
 use Rattle.std.specs.Prelude.{List, cond, ℕ, ◌-◌, length}
 use Rattle.std.specs.Borrow.{Bor}
+use Rattle.groups.specs.Numbers.{Cursor}
 use Rattle.groups.specs.Cursor.{goes_on}
-use Rattle.groups.specs.declared.cursor.Cursor.{Cursor}
-use Rattle.reading.specs.Events.{event_from, event_in}
-use Rattle.reading.specs.declared.events.EventRead.{EventRead}
+use Rattle.groups.specs.Told.{cursor_on}
+use Rattle.reading.specs.Events.{EventRead, event_from, event_in}
 use Rattle.reader.specs.declared.reader.Reader.{Reader}
 
 -- n: the population
@@ -20,4 +20,4 @@ abbrev pub rest_from : List ℕ → ℕ → ℕ
 rest_from s at = length s - at
 
 abbrev pub reader_on : Bor (List ℕ) → ℕ → Reader
-reader_on trace at = record { trace = trace; at = at }
+reader_on trace at = record { cursor = cursor_on trace at }

@@ -1,46 +1,28 @@
-// The next event of a trace, for whoever has the trace and a place: by a reader, and no caller sees one.
+// The next event of a trace, for whoever has the trace and a place.
 ghost use Rattle.std.specs.Prelude.{◌≡◌, ◌≤◌};
-ghost use Rattle.reader.specs.Next.{next_of, next_at};
+ghost use Rattle.groups.specs.Told.{Tells};
+ghost use Rattle.reader.specs.Next.{next_at, went_by};
 
-use super::places::place_after;
 use super::reader::Reader;
-use reading::events::EventRead;
+use base::refusals::Refusal;
 use steps::event::Event;
 
-// What was read, the place of what comes next, and how many bytes there are from there on. With a refusal, of which 0 is none,
-// the event stands for nothing, and the place is the trace's end.
+// What was read, the place of what comes next, and how many bytes there are from there on.
 #[derive(Clone, Copy)]
 pub struct Next {
     pub event: Event,
-    pub refusal: u64,
     pub at: usize,
     pub rest: usize,
 }
 
-impl Next {
-    pub(crate) fn of(read: EventRead, at: usize, rest: usize) -> Next
-        ensures { result ≡ next_of read at rest }
-    {
-        let event = read.event;
-        let cursor = read.cursor;
-        Next {
-            event: event,
-            refusal: cursor.refusal,
-            at: at,
-            rest: rest,
-        }
-    }
-}
-
-// n is the population.
-pub fn next_at(trace: &[u8], at: usize, n: usize) -> Next
+// The event at a place, or the refusal that is met there. n is the population.
+pub fn next_at(trace: &[u8], at: usize, n: usize) -> Result<Next, Refusal>
     requires { n ≤ 7 }
-    ensures { result ≡ next_at n trace.now at }
+    ensures { let x = next_at n trace.now at in Tells result (went_by x) x.refusal }
 {
-    let read = Reader::on(trace, at).event(n);
-    let end = place_after(trace, read);
-    let after = Reader::on(trace, end);
-    let place = after.place();
-    let rest = after.rest();
-    Next::of(read, place, rest)
+    let mut reader = Reader::on(trace, at);
+    let event = reader.event(n)?;
+    let at = reader.place();
+    let rest = reader.rest();
+    Ok(Next { event, at, rest })
 }

@@ -27,13 +27,13 @@ use Rattle.steps.specs.declared.event.Tag.{Tag}
 use Rattle.groups.specs.Numbers.{bytes_of}
 use Rattle.groups.specs.Cursor.{number_from, number_within, numbers_from}
 use Rattle.groups.specs.Reads.{Reads}
-use Rattle.groups.specs.declared.cursor.Cursor.{Cursor}
-use Rattle.groups.specs.declared.cursor.Number.{Number}
+use Rattle.groups.specs.Numbers.{Cursor}
+use Rattle.groups.specs.Numbers.{Number}
 use Rattle.groups.proofs.ReadLaws.{number_complete, within_complete, numbers_complete}
 use Rattle.reading.specs.Fields.{place_from, message_from, set_with, set_from}
 use Rattle.reading.specs.Batches.{kind_from, request_from, requests_from, batch_in, batch_from}
 use Rattle.reading.specs.Events.{start, header_of, proposal_in, from_set, from_seq, from_message, proposal_from, found, proposes, tag_for, by_tag, event_from}
-use Rattle.reading.specs.declared.fields.MessageRead.{MessageRead}
+use Rattle.reading.specs.Fields.{MessageRead}
 use Rattle.reading.specs.Format.{header_numbers, place_numbers, message_numbers, kind_numbers, request_numbers, batch_numbers, proposal_numbers, numbers_of, Sayable, Shaped}
 use Rattle.reading.proofs.StandLaws.{Stand, stand_nil, after_is, stand_parts}
 

@@ -12,10 +12,10 @@ use Rattle.steps.specs.Calls.{Call, propose, reply, prepare, log, try, lead_at}
 use Rattle.groups.specs.Numbers.{Bytes}
 use Rattle.groups.specs.Cursor.{number_from, number_within}
 use Rattle.groups.specs.Reads.{Reads, Fit}
-use Rattle.groups.specs.declared.cursor.Cursor.{Cursor}
+use Rattle.groups.specs.Numbers.{Cursor}
 use Rattle.groups.proofs.ReadLaws.{Known, refusal_is, stays_stopped, within_refusal_is, within_stays_stopped}
 use Rattle.reading.specs.Events.{start, header_of, Found, found, event_from}
-use Rattle.reading.specs.declared.events.HeaderRead.{HeaderRead}
+use Rattle.reading.specs.Events.{HeaderRead}
 use Rattle.reading.specs.Format.{header_numbers, numbers_of, header_bytes, event_bytes, Writable}
 use Rattle.reading.proofs.StandLaws.{reads_after, bytes_each, ends_inside}
 use Rattle.reading.proofs.SoundLaws.{event_shaped, event_stands, header_stands}

@@ -33,7 +33,7 @@ use Rattle.steps.specs.Step.{step_of, step_order, handled}
 use Rattle.steps.specs.declared.event.Tag.{Tag}
 use Rattle.steps.specs.declared.event.Tag.TheVariants.{PreAccept, Accept, CommitNotice, AcceptReply, ExpPrepare, Logged, Attempt, Lead}
 use Rattle.groups.specs.Cursor.{number_within}
-use Rattle.groups.specs.declared.cursor.Cursor.{Cursor}
+use Rattle.groups.specs.Numbers.{Cursor}
 use Rattle.reading.specs.Fields.{set_from}
 use Rattle.reading.specs.Batches.{requests_from, batch_from}
 use Rattle.reading.specs.Held.{held_dep, held_set, held_key, held_kind, held_request, held_batch, held_proposal, held}

@@ -9,14 +9,21 @@ use lib.Seq.{sets}
 use Rattle.deps.specs.Batches.{no_op, batch_of, with_request}
 use Rattle.deps.specs.declared.batches.Request.{Request}
 use Rattle.deps.specs.declared.batches.Batch.{Batch}
-use Rattle.groups.specs.Cursor.{number_from, numbers_from, number_within}
-use Rattle.groups.specs.declared.cursor.Cursor.{Cursor}
-use Rattle.groups.specs.declared.cursor.Number.{Number}
-use Rattle.groups.proofs.CursorLaws.{within_most}
+use Rattle.std.specs.Prelude.{Result, Ok, Err}
+use Rattle.std.specs.Result.{IsErrAnd}
+use Rattle.std.specs.Borrow.{Bor}
+use Rattle.base.specs.declared.refusals.Refusal.{Refusal}
+use Rattle.deps.specs.declared.sets.DepSet.{DepSet}
+use Rattle.groups.specs.Numbers.{Cursor}
+use Rattle.groups.specs.Cursor.{number_from, numbers_from}
+use Rattle.groups.specs.Told.{standing, Took}
+use Rattle.groups.specs.declared.cursor.Cursor as Reader
+use Rattle.groups.proofs.ReadLaws.{numbers_stay_stopped}
+use Rattle.groups.proofs.ToldLaws.{refusal_some, handed_on}
 use Rattle.reading.specs.Fields.{set_from}
-use Rattle.reading.specs.Batches.{request_from, requests_from, batch_from}
-use Rattle.reading.specs.Held.{held_dep, held_request, held_batch, held_set_read, held_request_read, held_batch_read}
-use Rattle.reading.specs.declared.batches.RequestRead.{RequestRead}
+use Rattle.reading.specs.Batches.{request_from, requests_from}
+use Rattle.reading.specs.Held.{held_dep, held_set, held_request, held_batch}
+use Rattle.reading.proofs.KeepLaws.{requests_stopped}
 
 -- ---- dependencies
 
@@ -30,52 +37,74 @@ map_sets f [] l i = refl
 map_sets f (v ∷ vs) l i = map_sets f vs (set l i v) (suc i) ∙ ap (λ m. sets m (suc i) (map f vs)) (map_set f l i v)
 
 -- so many dependencies are left, to be written over cols from a row on
-abbrev pub deps_left : ℕ → List ℕ → Cursor → List ℕ → ℕ → List ℕ
+abbrev deps_left : ℕ → List ℕ → Cursor → List ℕ → ℕ → List ℕ
 deps_left left s c cols row = sets cols row (map held_dep (numbers_from left s c).values)
 
-module _ (s : List ℕ) (n row : ℕ) (h : row < n) (c : Cursor) (x : Number) (e : x ≡ number_from s c) where
-  pub deps_turn : (cols : List ℕ) → deps_left (n - (row + 1)) s x.cursor (set cols row (held_dep x.value)) (row + 1) ≡ deps_left (n - row) s c cols row
-  unfolding numbers_from
-  deps_turn cols =
-      let g : n - row ≡ suc (n - (row + 1)) = omega arith in
-      rw (g, add-one row, e)
+-- rows of a set were read from a cursor, and none was refused
+pub record SetTo (n : ℕ) (c : Reader.Cursor) (cols : List ℕ) (row : ℕ) (now : Reader.Cursor) : Type 0 where
+  pub trace : now.trace ≡ c.trace
+  pub going : (standing now.place).refusal ≡ 0
+  pub left : deps_left (n - row) c.trace.now (standing now.place) cols row ≡ deps_left n c.trace.now (standing c.place) (replicate 7 0) 0
+  pub next : (numbers_from (n - row) c.trace.now (standing now.place)).cursor ≡ (numbers_from n c.trace.now (standing c.place)).cursor
 
-  pub cursor_turn : (numbers_from (n - (row + 1)) s x.cursor).cursor ≡ (numbers_from (n - row) s c).cursor
-  unfolding numbers_from
-  cursor_turn =
-      let g : n - row ≡ suc (n - (row + 1)) = omega arith in
-      rw (g, e)
+module _ (n : ℕ) (c : Reader.Cursor) (cols : List ℕ) (row : ℕ) (now last : Reader.Cursor) (w : SetTo n c cols row now) where
+  row_trace : now.trace.now ≡ c.trace.now
+  row_trace = ap (λ (b : Bor (List ℕ)). b.now) w.trace
 
-pub set_read : (n row : ℕ) (s : List ℕ) (c d : Cursor) (cols : List ℕ) → n ≤ row
-    → deps_left (n - row) s d cols row ≡ deps_left n s c (replicate 7 0) 0 → (numbers_from (n - row) s d).cursor ≡ (numbers_from n s c).cursor
-    → record { set = record { cols = cols }; cursor = d } ≡ held_set_read (set_from n s c)
-unfolding set_from numbers_from
-set_read n row s c d cols h e f =
-    let g : n - row ≡ 0 = omega arith in
-    let p : cols ≡ map held_dep (sets (replicate 7 0) 0 (numbers_from n s c).values) = rw g at e ∙ sym (map_sets held_dep (numbers_from n s c).values (replicate 7 0) 0) in
-    let q : d ≡ (numbers_from n s c).cursor = rw g at f in
-    rw (p, q)
+  module _ (h : row < n) where
+    row_left : n - row ≡ suc (n - (row + 1))
+    row_left = omega arith
+
+    pub row_read : (number : ℕ) → Took now (Ok number) last (number_from now.trace.now (standing now.place)).value (number_from now.trace.now (standing now.place)).cursor
+        → SetTo n c (set cols row (held_dep number)) (row + 1) last
+    unfolding numbers_from
+    row_read number t =
+        let told = rw row_trace at t.told.0 in
+        let place = rw row_trace at t.place in
+        record {
+          trace = t.trace ∙ w.trace;
+          going = ap (λ (x : Cursor). x.refusal) t.place ∙ t.told.1;
+          left =
+              let x = number_from c.trace.now (standing now.place) in
+              rw (place, told)
+              (ap (λ (k : ℕ). sets (set cols row (held_dep x.value)) k (map held_dep (numbers_from (n - (row + 1)) c.trace.now x.cursor).values)) (add-one row)
+              ∙ rw row_left at w.left);
+          next = rw place (rw row_left at w.next);
+        }
+
+    pub row_refused : (e : Refusal) → Took {A = ℕ} now (Err e) last (number_from now.trace.now (standing now.place)).value (number_from now.trace.now (standing now.place)).cursor
+        → (r : Result DepSet Refusal) → IsErrAnd r (λ x. x ≡ e)
+        → Took c r last (held_set (set_from n c.trace.now (standing c.place)).set) (set_from n c.trace.now (standing c.place)).cursor
+    unfolding set_from numbers_from
+    row_refused e t r k =
+        let place = rw row_trace at t.place in
+        let told = rw row_trace at t.told in
+        let still = numbers_stay_stopped (n - (row + 1)) c.trace.now (number_from c.trace.now (standing now.place)).cursor (λ z. omega (arith, told, refusal_some e)) in
+        let all : (numbers_from n c.trace.now (standing c.place)).cursor ≡ (number_from c.trace.now (standing now.place)).cursor
+        = sym w.next ∙ rw row_left still in
+        rw (handed_on r e k, all) (record { trace = t.trace ∙ w.trace; place = place; told = told })
+
+  pub rows_read : n ≤ row → Took c (Ok (record { cols = cols })) now (held_set (set_from n c.trace.now (standing c.place)).set) (set_from n c.trace.now (standing c.place)).cursor
+  unfolding set_from numbers_from
+  rows_read h =
+      let g : n - row ≡ 0 = omega arith in
+      let all = sym (map_sets held_dep (numbers_from n c.trace.now (standing c.place)).values (replicate 7 0) 0) in
+      let p : cols ≡ map held_dep (sets (replicate 7 0) 0 (numbers_from n c.trace.now (standing c.place)).values) = rw g at w.left ∙ all in
+      let q : standing now.place ≡ (numbers_from n c.trace.now (standing c.place)).cursor = rw g at w.next in
+      rw (← p, ← q) (record { trace = w.trace; place = refl; told = (refl, w.going) })
 
 -- ---- requests
 
 -- so many requests are left, to be added to a batch
-abbrev pub with_left : ℕ → List ℕ → Cursor → Batch → Batch
+abbrev with_left : ℕ → List ℕ → Cursor → Batch → Batch
 with_left left s c b = foldl with_request b (map held_request (requests_from left s c).requests)
 
-module _ (s : List ℕ) (c : Cursor) (x : RequestRead) (e : x ≡ held_request_read (request_from s c)) where
-  pub requests_turn : (left : ℕ) → 0 < left → (b : Batch) → with_left (left - 1) s x.cursor (with_request b x.request) ≡ with_left left s c b
-  unfolding requests_from
-  requests_turn zero h b = elim h [ ]
-  requests_turn (suc left) h b =
-      let g : suc left - 1 ≡ left = omega arith in
-      rw (g, e)
-
-  pub requests_cursor : (left : ℕ) → 0 < left → (requests_from (left - 1) s x.cursor).cursor ≡ (requests_from left s c).cursor
-  unfolding requests_from
-  requests_cursor zero h = elim h [ ]
-  requests_cursor (suc left) h =
-      let g : suc left - 1 ≡ left = omega arith in
-      rw (g, e)
+-- requests of a batch were read from a cursor, and none was refused
+pub record BatchTo (many : ℕ) (c : Reader.Cursor) (batch : Batch) (i : ℕ) (now : Reader.Cursor) : Type 0 where
+  pub trace : now.trace ≡ c.trace
+  pub going : (standing now.place).refusal ≡ 0
+  pub left : with_left (many - i) c.trace.now (standing now.place) batch ≡ with_left many c.trace.now (standing c.place) no_op
+  pub next : (requests_from (many - i) c.trace.now (standing now.place)).cursor ≡ (requests_from many c.trace.now (standing c.place)).cursor
 
 pub requests_length : (many : ℕ) (s : List ℕ) (c : Cursor) → length (requests_from many s c).requests ≡ many
 unfolding requests_from
@@ -92,13 +121,46 @@ all_added (a ∷ b ∷ c ∷ []) h = refl
 all_added (a ∷ b ∷ c ∷ d ∷ []) h = refl
 all_added (a ∷ b ∷ c ∷ d ∷ e ∷ l) h = absurd (omega arith)
 
-pub batch_read : (s : List ℕ) (c d : Cursor) (x : Number) (b : Batch) (left : ℕ) → x ≡ number_within 0 4 s c → left ≡ 0
-    → with_left left s d b ≡ with_left x.value s x.cursor no_op → (requests_from left s d).cursor ≡ (requests_from x.value s x.cursor).cursor
-    → record { batch = b; cursor = d } ≡ held_batch_read (batch_from s c)
-unfolding batch_from requests_from
-batch_read s c d x b left e z f g =
-    let m : length (requests_from x.value s x.cursor).requests ≤ 4
-    = omega (arith, requests_length x.value s x.cursor, ap (λ (y : Number). y.value) e, within_most 0 4 s c) in
-    let p : b ≡ held_batch (batch_of (requests_from x.value s x.cursor).requests) = rw z at f ∙ all_added (requests_from x.value s x.cursor).requests m in
-    let q : d ≡ (requests_from x.value s x.cursor).cursor = rw z at g in
-    rw (← e, p, q)
+module _ (many : ℕ) (c : Reader.Cursor) (batch : Batch) (i : ℕ) (now last : Reader.Cursor) (w : BatchTo many c batch i now) where
+  request_trace : now.trace.now ≡ c.trace.now
+  request_trace = ap (λ (b : Bor (List ℕ)). b.now) w.trace
+
+  module _ (h : i < many) where
+    request_left : many - i ≡ suc (many - (i + 1))
+    request_left = omega arith
+
+    pub request_read : (request : Request)
+        → Took now (Ok request) last (held_request (request_from now.trace.now (standing now.place)).request) (request_from now.trace.now (standing now.place)).cursor
+        → BatchTo many c (with_request batch request) (i + 1) last
+    unfolding requests_from
+    request_read request t =
+        let told = rw request_trace at t.told.0 in
+        let place = rw request_trace at t.place in
+        record {
+          trace = t.trace ∙ w.trace;
+          going = ap (λ (x : Cursor). x.refusal) t.place ∙ t.told.1;
+          left = rw (place, told) (rw request_left at w.left);
+          next = rw place (rw request_left at w.next);
+        }
+
+    pub request_refused : (e : Refusal)
+        → Took {A = Request} now (Err e) last (held_request (request_from now.trace.now (standing now.place)).request) (request_from now.trace.now (standing now.place)).cursor
+        → Took {A = Batch} c (Err e) last batch (requests_from many c.trace.now (standing c.place)).cursor
+    unfolding requests_from
+    request_refused e t =
+        let place = rw request_trace at t.place in
+        let told = rw request_trace at t.told in
+        let still = requests_stopped c.trace.now (request_from c.trace.now (standing now.place)).cursor (λ z. omega (arith, told, refusal_some e)) (many - (i + 1)) in
+        let all : (requests_from many c.trace.now (standing c.place)).cursor ≡ (request_from c.trace.now (standing now.place)).cursor
+        = sym w.next ∙ rw request_left still in
+        rw all (record { trace = t.trace ∙ w.trace; place = place; told = told })
+
+  pub requests_read : many ≤ i → many ≤ 4
+      → Took c (Ok batch) now (held_batch (batch_of (requests_from many c.trace.now (standing c.place)).requests)) (requests_from many c.trace.now (standing c.place)).cursor
+  unfolding requests_from
+  requests_read h m =
+      let g : many - i ≡ 0 = omega arith in
+      let l = (requests_from many c.trace.now (standing c.place)).requests in
+      let p : batch ≡ held_batch (batch_of l) = rw g at w.left ∙ all_added l (omega (arith, requests_length many c.trace.now (standing c.place))) in
+      let q : standing now.place ≡ (requests_from many c.trace.now (standing c.place)).cursor = rw g at w.next in
+      rw (← p, ← q) (record { trace = w.trace; place = refl; told = (refl, w.going) })

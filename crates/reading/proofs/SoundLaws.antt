@@ -16,7 +16,7 @@ use Rattle.steps.specs.declared.event.Tag.{Tag}
 use Rattle.steps.specs.declared.event.Tag.TheVariants.{PreAccept, Accept, CommitNotice, AcceptReply, ExpPrepare, Logged, Attempt, Lead}
 use Rattle.groups.specs.Numbers.{Bytes}
 use Rattle.groups.specs.Cursor.{number_from, number_within, numbers_from}
-use Rattle.groups.specs.declared.cursor.Cursor.{Cursor}
+use Rattle.groups.specs.Numbers.{Cursor}
 use Rattle.groups.proofs.CursorLaws.{within_most}
 use Rattle.groups.proofs.ReadLaws.{number_sound, within_sound, numbers_sound}
 use Rattle.reading.specs.Fields.{place_from, message_from, set_with, set_from}

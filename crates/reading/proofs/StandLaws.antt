@@ -6,7 +6,7 @@ use native.Mathlib.Omega.{arith}
 use lib.ListN.{length, drop, length-append, length-drop}
 use Rattle.groups.specs.Numbers.{bytes_of}
 use Rattle.groups.specs.Reads.{Reads, Fit}
-use Rattle.groups.specs.declared.cursor.Cursor.{Cursor}
+use Rattle.groups.specs.Numbers.{Cursor}
 use Rattle.groups.proofs.NumberLaws.{some_bytes}
 use Rattle.groups.proofs.ReadLaws.{reads_none, reads_then, after}
 

@@ -1,14 +1,27 @@
 -- Requests and batches: a count of at most 4, and per request client, id, kind; key for a put and a get, value for a put.
 use Rattle.std.specs.Prelude.{List, [], ◌∷◌, cond, ℕ, zero, suc, eqb}
 use Rattle.deps.specs.Batches.{batch_of}
+use Rattle.deps.specs.declared.batches.Batch.{Batch}
+use Rattle.deps.specs.declared.batches.Kind.{Kind}
 use Rattle.deps.specs.declared.batches.Kind.TheVariants.{Other, Put, Get}
 use Rattle.deps.specs.declared.batches.Request.{Request}
 use Rattle.groups.specs.Cursor.{Numbers, numbers_from, number_within}
-use Rattle.groups.specs.declared.cursor.Cursor.{Cursor}
+use Rattle.groups.specs.Numbers.{Cursor}
 use Rattle.reading.specs.Fields.{nth}
-use Rattle.reading.specs.declared.batches.KindRead.{KindRead}
-use Rattle.reading.specs.declared.batches.RequestRead.{RequestRead}
-use Rattle.reading.specs.declared.batches.BatchRead.{BatchRead}
+
+-- ---- what was read, and where it ends or what was refused
+
+pub record KindRead : Type 0 where
+  pub kind : Kind
+  pub cursor : Cursor
+
+pub record RequestRead : Type 0 where
+  pub request : Request
+  pub cursor : Cursor
+
+pub record BatchRead : Type 0 where
+  pub batch : Batch
+  pub cursor : Cursor
 
 -- ---- kinds: 0 other, 1 put, 2 get
 

@@ -1,5 +1,6 @@
 -- The header and the events of a trace.
 use Rattle.std.specs.Prelude.{List, ℕ}
+use Rattle.base.specs.declared.config.Config.{Config}
 use Rattle.bounds.specs.Open.{config_of}
 use Rattle.deps.specs.Sets.{empty_set}
 use Rattle.deps.specs.Batches.{no_op}
@@ -16,18 +17,25 @@ use Rattle.steps.specs.declared.event.Tag.{Tag}
 use Rattle.steps.specs.declared.event.Tag.TheVariants.{PreAccept, Accept, CommitNotice, AcceptReply, ExpPrepare, Logged, Attempt, Lead}
 use Rattle.steps.specs.declared.event.Event.{Event}
 use Rattle.groups.specs.Cursor.{Numbers, numbers_from, number_from, number_within}
-use Rattle.groups.specs.declared.cursor.Cursor.{Cursor}
-use Rattle.groups.specs.declared.cursor.Number.{Number}
-use Rattle.reading.specs.Fields.{nth, place_from, message_from, set_from}
-use Rattle.reading.specs.Batches.{batch_from}
-use Rattle.reading.specs.Held.{held, held_proposal}
-use Rattle.reading.specs.declared.fields.PlaceRead.{PlaceRead}
-use Rattle.reading.specs.declared.fields.MessageRead.{MessageRead}
-use Rattle.reading.specs.declared.fields.SetRead.{SetRead}
-use Rattle.reading.specs.declared.batches.BatchRead.{BatchRead}
-use Rattle.reading.specs.declared.events.HeaderRead.{HeaderRead}
-use Rattle.reading.specs.declared.events.ProposalRead.{ProposalRead}
-use Rattle.reading.specs.declared.events.EventRead.{EventRead}
+use Rattle.groups.specs.Numbers.{Cursor, Number}
+use Rattle.reading.specs.Fields.{PlaceRead, MessageRead, SetRead, nth, place_from, message_from, set_from}
+use Rattle.reading.specs.Batches.{BatchRead, batch_from}
+use Rattle.reading.specs.Held.{held}
+use Rattle.reading.specs.declared.events.Head.{Head}
+
+-- ---- what was read, and where it ends or what was refused
+
+pub record HeaderRead : Type 0 where
+  pub config : Config
+  pub cursor : Cursor
+
+pub record ProposalRead : Type 0 where
+  pub proposal : Proposal
+  pub cursor : Cursor
+
+pub record EventRead : Type 0 where
+  pub event : Event
+  pub cursor : Cursor
 
 -- ---- the header: N, own number, simple, super
 
@@ -39,6 +47,10 @@ start = record { at = 0; refusal = 0 }
 
 unfoldable pub header_of : List ℕ → HeaderRead
 header_of s = header_in (numbers_from 4 s start)
+
+-- as it is held
+abbrev pub headed : HeaderRead → Head
+headed x = record { config = x.config; next = x.cursor.at }
 
 -- ---- PreAccept, Accept, CommitNotice: a message, sequence, N dependencies, batch
 
@@ -60,9 +72,6 @@ from_message n s m = from_seq n s m (number_from s m.cursor)
 
 unfoldable pub proposal_from : ℕ → List ℕ → Cursor → ProposalRead
 proposal_from n s c = from_message n s (message_from s c)
-
-abbrev pub held_read : ProposalRead → ProposalRead
-held_read x = record { proposal = held_proposal x.proposal; cursor = x.cursor }
 
 -- ---- an event: a tag, and what it asks for
 

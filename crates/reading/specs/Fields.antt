@@ -5,13 +5,25 @@ use Rattle.deps.specs.Sets.{set_of}
 use Rattle.deps.specs.declared.sets.DepSet.{DepSet}
 use Rattle.table.specs.Place.{place_of}
 use Rattle.groups.specs.Cursor.{Numbers, numbers_from}
-use Rattle.groups.specs.declared.cursor.Cursor.{Cursor}
-use Rattle.reading.specs.declared.fields.PlaceRead.{PlaceRead}
-use Rattle.reading.specs.declared.fields.MessageRead.{MessageRead}
-use Rattle.reading.specs.declared.fields.SetRead.{SetRead}
+use Rattle.groups.specs.Numbers.{Cursor}
+use Rattle.outcomes.specs.declared.message.Message.{Message}
+use Rattle.table.specs.declared.place.Place.{Place}
 
 abbrev pub nth : Numbers → ℕ → ℕ
 nth x i = get_or x.values i 0
+
+-- what was read, and where it ends or what was refused
+pub record PlaceRead : Type 0 where
+  pub at : Place
+  pub cursor : Cursor
+
+pub record MessageRead : Type 0 where
+  pub message : Message
+  pub cursor : Cursor
+
+pub record SetRead : Type 0 where
+  pub set : DepSet
+  pub cursor : Cursor
 
 -- row, column
 abbrev pub place_in : Numbers → PlaceRead

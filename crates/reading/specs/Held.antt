@@ -8,10 +8,6 @@ use Rattle.deps.specs.declared.batches.Kind.TheVariants.{Other, Put, Get}
 use Rattle.deps.specs.declared.batches.Request.{Request}
 use Rattle.deps.specs.declared.batches.Batch.{Batch}
 use Rattle.outcomes.specs.declared.message.Proposal.{Proposal}
-use Rattle.reading.specs.declared.fields.SetRead.{SetRead}
-use Rattle.reading.specs.declared.batches.KindRead.{KindRead}
-use Rattle.reading.specs.declared.batches.RequestRead.{RequestRead}
-use Rattle.reading.specs.declared.batches.BatchRead.{BatchRead}
 use Rattle.steps.specs.Calls.{Call, propose, reply, prepare, log, try, lead_at}
 
 abbrev pub held_dep : ℕ → ℕ
@@ -44,17 +40,3 @@ held (prepare m) = prepare m
 held (log status at) = log status at
 held (try at) = try at
 held (lead_at at) = lead_at at
-
--- of what is read on the way
-
-abbrev pub held_set_read : SetRead → SetRead
-held_set_read x = record { set = held_set x.set; cursor = x.cursor }
-
-abbrev pub held_kind_read : KindRead → KindRead
-held_kind_read x = record { kind = held_kind x.kind; cursor = x.cursor }
-
-abbrev pub held_request_read : RequestRead → RequestRead
-held_request_read x = record { request = held_request x.request; cursor = x.cursor }
-
-abbrev pub held_batch_read : BatchRead → BatchRead
-held_batch_read x = record { batch = held_batch x.batch; cursor = x.cursor }

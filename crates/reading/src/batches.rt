@@ -1,101 +1,52 @@
 // Requests and batches.
 ghost use Rattle.std.specs.Prelude.{◌≡◌};
+ghost use Rattle.groups.specs.Told.{standing, Took};
 ghost use Rattle.reading.specs.Batches.{kind_from, request_from, batch_from};
-ghost use Rattle.reading.specs.Held.{held_key, held_kind_read, held_request_read, held_batch_read};
+ghost use Rattle.reading.specs.Held.{held_key, held_kind, held_request, held_batch};
 
+use base::refusals::Refusal;
 use deps::batches::{Batch, Kind, Request};
 use groups::cursor::Cursor;
 
-#[derive(Clone, Copy)]
-pub struct KindRead {
-    pub kind: Kind,
-    pub cursor: Cursor,
-}
-
-#[derive(Clone, Copy)]
-pub struct RequestRead {
-    pub request: Request,
-    pub cursor: Cursor,
-}
-
-#[derive(Clone, Copy)]
-pub struct BatchRead {
-    pub batch: Batch,
-    pub cursor: Cursor,
-}
-
 // A count of at most 4, and as many requests.
-pub(crate) fn batch(trace: &[u8], cursor: Cursor) -> BatchRead
-    ensures { result ≡ held_batch_read (batch_from trace.now cursor) }
+pub(crate) fn batch(cursor: &mut Cursor) -> Result<Batch, Refusal>
+    ensures { let x = batch_from cursor.old.trace.now (standing cursor.old.place) in Took cursor.old result cursor.new (held_batch x.batch) x.cursor }
 {
-    let count = cursor.number_within(trace, 0, 4);
-    let mut out = Batch::NO_OP;
-    let mut at = count.cursor;
-    let mut left = count.value;
-    while 0 < left {
-        let read = request(trace, at);
-        let one = read.request;
-        out = out.with(one);
-        at = read.cursor;
-        left -= 1;
+    let count = cursor.number_within(0, 4)?;
+    let mut batch = Batch::NO_OP;
+    for _ in 0..count {
+        let request = request(cursor)?;
+        batch = batch.with(request);
     }
-    BatchRead {
-        batch: out,
-        cursor: at,
-    }
+    Ok(batch)
 }
 
 // Client, id, kind.
-fn request(trace: &[u8], cursor: Cursor) -> RequestRead
-    ensures { result ≡ held_request_read (request_from trace.now cursor) }
+fn request(cursor: &mut Cursor) -> Result<Request, Refusal>
+    ensures { let x = request_from cursor.old.trace.now (standing cursor.old.place) in Took cursor.old result cursor.new (held_request x.request) x.cursor }
 {
-    let client = cursor.number(trace);
-    let second = client.cursor;
-    let id = second.number(trace);
-    let read = kind(trace, id.cursor);
-    let asked = read.kind;
-    let after = read.cursor;
-    RequestRead {
-        request: Request {
-            client: client.value,
-            id: id.value,
-            kind: asked,
-        },
-        cursor: after,
-    }
+    let [client, id] = cursor.numbers::<2>()?;
+    let kind = kind(cursor)?;
+    Ok(Request { client, id, kind })
 }
 
 // 0 other, 1 put with key and value, 2 get with key.
-fn kind(trace: &[u8], cursor: Cursor) -> KindRead
-    ensures { result ≡ held_kind_read (kind_from trace.now cursor) }
+fn kind(cursor: &mut Cursor) -> Result<Kind, Refusal>
+    ensures { let x = kind_from cursor.old.trace.now (standing cursor.old.place) in Took cursor.old result cursor.new (held_kind x.kind) x.cursor }
 {
-    let number = cursor.number_within(trace, 0, 2);
-    let which = number.value;
-    let second = number.cursor;
-    if which == 0 {
-        return KindRead {
-            kind: Kind::Other,
-            cursor: second,
-        };
-    }
-    let named = second.number(trace);
-    let third = named.cursor;
-    if which == 2 {
-        return KindRead {
-            kind: Kind::Get {
-                key: key(named.value),
-            },
-            cursor: third,
-        };
-    }
-    let value = third.number(trace);
-    let after = value.cursor;
-    KindRead {
-        kind: Kind::Put {
-            key: key(named.value),
-            value: value.value,
-        },
-        cursor: after,
+    match cursor.number_within(0, 2)? {
+        0 => Ok(Kind::Other),
+        1 => {
+            let [number, value] = cursor.numbers::<2>()?;
+            Ok(Kind::Put {
+                key: key(number),
+                value,
+            })
+        }
+        _ => {
+            let [number] = cursor.numbers::<1>()?;
+            Ok(Kind::Get { key: key(number) })
+        }
     }
 }
 
@@ -103,9 +54,5 @@ fn kind(trace: &[u8], cursor: Cursor) -> KindRead
 fn key(number: u64) -> u16
     ensures { result ≡ held_key number }
 {
-    if number <= 65535 {
-        number as u16
-    } else {
-        65535
-    }
+    u16::try_from(number).unwrap_or(u16::MAX)
 }

@@ -1,93 +1,60 @@
 // What several events have alike.
 ghost use Rattle.std.specs.Prelude.{◌≡◌, ◌≤◌};
+ghost use Rattle.groups.specs.Told.{standing, Took};
 ghost use Rattle.reading.specs.Fields.{place_from, message_from, set_from};
-ghost use Rattle.reading.specs.Held.{held_dep, held_set_read};
+ghost use Rattle.reading.specs.Held.{held_dep, held_set};
 
+use base::refusals::Refusal;
 use deps::sets::DepSet;
 use groups::cursor::Cursor;
 use outcomes::message::Message;
 use table::place::Place;
 
-#[derive(Clone, Copy)]
-pub struct PlaceRead {
-    pub at: Place,
-    pub cursor: Cursor,
-}
-
-#[derive(Clone, Copy)]
-pub struct MessageRead {
-    pub message: Message,
-    pub cursor: Cursor,
-}
-
-#[derive(Clone, Copy)]
-pub struct SetRead {
-    pub set: DepSet,
-    pub cursor: Cursor,
-}
-
 // Row, column.
-pub(crate) fn place(trace: &[u8], cursor: Cursor) -> PlaceRead
-    ensures { result ≡ place_from trace.now cursor }
+pub(crate) fn place(cursor: &mut Cursor) -> Result<Place, Refusal>
+    ensures { let x = place_from cursor.old.trace.now (standing cursor.old.place) in Took cursor.old result cursor.new x.at x.cursor }
 {
-    let row = cursor.number(trace);
-    let before = row.cursor;
-    let col = before.number(trace);
-    let after = col.cursor;
-    PlaceRead {
-        at: Place {
-            row: size(row.value),
-            col: size(col.value),
-        },
-        cursor: after,
-    }
+    let [row, col] = cursor.numbers::<2>()?;
+    Ok(Place {
+        row: size(row),
+        col: size(col),
+    })
 }
 
 // Peer, row, column, ballot.
-pub(crate) fn message(trace: &[u8], cursor: Cursor) -> MessageRead
-    ensures { result ≡ message_from trace.now cursor }
+pub(crate) fn message(cursor: &mut Cursor) -> Result<Message, Refusal>
+    ensures { let x = message_from cursor.old.trace.now (standing cursor.old.place) in Took cursor.old result cursor.new x.message x.cursor }
 {
-    let peer = cursor.number(trace);
-    let read = place(trace, peer.cursor);
-    let before = read.cursor;
-    let ballot = before.number(trace);
-    let at = read.at;
-    let after = ballot.cursor;
-    MessageRead {
-        message: Message {
-            peer: size(peer.value),
-            at: at,
-            ballot: ballot.value,
+    let [peer, row, col, ballot] = cursor.numbers::<4>()?;
+    Ok(Message {
+        peer: size(peer),
+        at: Place {
+            row: size(row),
+            col: size(col),
         },
-        cursor: after,
-    }
+        ballot,
+    })
 }
 
 // n dependencies, each 0 or column + 1.
-pub(crate) fn set(trace: &[u8], cursor: Cursor, n: usize) -> SetRead
+pub(crate) fn set(cursor: &mut Cursor, n: usize) -> Result<DepSet, Refusal>
     requires { n ≤ 7 }
-    ensures { result ≡ held_set_read (set_from n trace.now cursor) }
+    ensures { let x = set_from n cursor.old.trace.now (standing cursor.old.place) in Took cursor.old result cursor.new (held_set x.set) x.cursor }
 {
-    let mut out = DepSet::EMPTY;
-    let mut at = cursor;
-    let mut row: usize = 0;
-    while row < n {
-        let number = at.number(trace);
-        out.cols[row] = dependency(number.value);
-        at = number.cursor;
-        row += 1;
+    cursor.place?;
+    let mut set = DepSet::EMPTY;
+    for row in 0..n {
+        let number = cursor.number()?;
+        set.cols[row] = dependency(number);
     }
-    SetRead {
-        set: out,
-        cursor: at,
-    }
+    Ok(set)
 }
 
 // One that a set's byte does not hold becomes 255, which is refused all the same.
 fn dependency(number: u64) -> u8
     ensures { result ≡ held_dep number }
 {
-    if number <= 255 { number as u8 } else { 255 }
+    u8::try_from(number).unwrap_or(u8::MAX)
 }
 
 // A size has 64 bits, so every number is one.

@@ -16,7 +16,7 @@ use Rattle.bounds.proofs.OpenLaws.{empty_within}
 use Rattle.steps.proofs.KeepLaws.{empty_sized}
 use Rattle.steps.proofs.RoomLaws.{unrun_most}
 use Rattle.reading.specs.Events.{header_of}
-use Rattle.reading.specs.declared.events.HeaderRead.{HeaderRead}
+use Rattle.reading.specs.Events.{HeaderRead}
 use Rattle.reader.specs.Reader.{rest_from}
 use Rattle.lines.specs.Bars.{bars_text}
 use Rattle.trace.specs.Trace.{Trace, Played, refused, opened_trace, trace_of, text_of, played_from, said_text}

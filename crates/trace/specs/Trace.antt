@@ -11,7 +11,7 @@ use Rattle.steps.specs.Calls.{Call}
 use Rattle.steps.specs.Step.{answer_to, after, slots_run}
 use Rattle.groups.specs.Cursor.{goes_on}
 use Rattle.reading.specs.Events.{header_of, Found, event_from}
-use Rattle.reading.specs.declared.events.HeaderRead.{HeaderRead}
+use Rattle.reading.specs.Events.{HeaderRead}
 use Rattle.lines.specs.Line.{line_text}
 use Rattle.lines.specs.Bars.{bars_text}
 

@@ -1,20 +1,28 @@
-use mathlib.Core.Path.{◌∙◌}
-use native.Mathlib.Omega.{arith}
-use Rattle.reading.proofs.LoopLaws.{deps_turn, cursor_turn, set_read}
+use Rattle.groups.specs.Told.{standing}
+use Rattle.groups.proofs.ReadLaws.{numbers_stay_stopped}
+use Rattle.groups.proofs.ToldLaws.{place_refused}
+use Rattle.reading.specs.Fields.{set_from}
+use Rattle.reading.proofs.LoopLaws.{row_read, row_refused, rows_read}
 use Rattle.reading.proofs.fields.set.Goals as goal
+
+pub returns-in_err-cursor : goal.returns-in_err-cursor
+unfolding set_from
+returns-in_err-cursor c =
+    let s = c.args.cursor.now in
+    place_refused s c.in_err-cursor.field-0.0 c.in_err-cursor.was c.from_residual.result c.from_residual.ensures.1 (numbers_stay_stopped c.args.n s.trace.now (standing s.place))
 
 pub loop-row-preserved : goal.loop-row-preserved
 loop-row-preserved c =
-    let a = c.args in
-    let x = c.number-number in
-    let i = c.loop-row in (
-      omega arith,
-      rw c.dependency.ensures (deps_turn a.trace.now a.n i.row (omega arith) i.at x.result x.ensures i.out.cols ∙ i.invariant.1),
-      cursor_turn a.trace.now a.n i.row (omega arith) i.at x.result x.ensures ∙ i.invariant.2,
-    )
+    let l = c.loop-row in
+    rw c.dependency.ensures (row_read c.args.n c.args.cursor.now l.set.cols l.row l.cursor c.number.new.self l.invariant c.loop-row-test.true c.in_ok-number.number c.in_ok-number.ensures)
+
+pub returns-in_err-number : goal.returns-in_err-number
+returns-in_err-number c =
+    let l = c.loop-row in
+    let r = c.from_residual-in_err-number in
+    row_refused c.args.n c.args.cursor.now l.set.cols l.row l.cursor c.number.new.self l.invariant c.loop-row-test.true c.in_err-number.field-0.0 c.in_err-number.ensures r.result r.ensures.1
 
 pub returns : goal.returns
 returns c =
-    let i = c.loop-row in
-    let a = c.args in
-    set_read a.n i.row a.trace.now a.cursor i.at i.out.cols (omega arith) i.invariant.1 i.invariant.2
+    let l = c.loop-row in
+    rows_read c.args.n c.args.cursor.now l.set.cols l.row l.cursor l.cursor l.invariant c.loop-row-test.false

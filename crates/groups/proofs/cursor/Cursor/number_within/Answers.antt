@@ -1,37 +1,17 @@
-use mathlib.Core.Path.{ap, ◌∙◌}
-use native.Mathlib.Omega.{arith}
-use Rattle.groups.specs.Cursor.{held_to, number_within}
-use Rattle.groups.proofs.CursorLaws.{held_stopped, held_under, held_over, held_in}
+use Rattle.groups.proofs.ToldLaws.{within_refused, within_outside, within_inside}
 use Rattle.groups.proofs.cursor.Cursor.number_within.Goals as goal
 
-pub returns-then-cursor-gt0 : goal.returns-then-cursor-gt0
-unfolding number_within
-returns-then-cursor-gt0 c =
+pub returns-in_err-value : goal.returns-in_err-value
+returns-in_err-value c =
     let a = c.args in
-    let x = c.number-read in
-    held_stopped a.least a.most x.result c.if-cursor-gt0.true ∙ ap (held_to a.least a.most) x.ensures
+    within_refused a.least a.most a.self.now c.number.new.self c.in_err-value.field-0.0 c.in_err-value.ensures c.from_residual.result c.from_residual.ensures.1
 
-pub returns-then-read-least : goal.returns-then-read-least
-unfolding number_within
-returns-then-read-least c =
+pub returns-then-value-least : goal.returns-then-value-least
+returns-then-value-least c =
     let a = c.args in
-    let x = c.number-read in
-    c.stopped.ensures
-    ∙ held_under a.least a.most x.result (omega arith) c.if-read-least.true
-    ∙ ap (held_to a.least a.most) x.ensures
-
-pub returns-then-most-read : goal.returns-then-most-read
-unfolding number_within
-returns-then-most-read c =
-    let a = c.args in
-    let x = c.number-read in
-    c.stopped-then-most-read.ensures
-    ∙ held_over a.least a.most x.result (omega arith) (omega arith) c.if-most-read.true
-    ∙ ap (held_to a.least a.most) x.ensures
+    within_outside a.least a.most a.self.now c.number.new.self c.in_ok-value.value c.in_ok-value.ensures c.then-value-least.either
 
 pub returns : goal.returns
-unfolding number_within
 returns c =
     let a = c.args in
-    let x = c.number-read in
-    held_in a.least a.most x.result (omega arith) (omega arith) (omega arith) ∙ ap (held_to a.least a.most) x.ensures
+    within_inside a.least a.most a.self.now c.number.new.self c.in_ok-value.value c.in_ok-value.ensures c.if-value-least.false c.if-most-value.false
