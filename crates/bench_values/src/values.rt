@@ -31,14 +31,11 @@ pub fn njb_step(image: &[u8], trace: &[u8], times: u64) -> u64
     if !fits(table) {
         return refusals::OUTSIDE_BOUNDS;
     }
-    let config = table.config;
-    let read = event(trace, Cursor::START, config.n);
-    let cursor = read.cursor;
-    if 0 < cursor.refusal {
-        return cursor.refusal;
+    let mut cursor = Cursor::on(trace, 0);
+    match event(&mut cursor, table.config.n) {
+        Ok(asked) => again(table, asked, times),
+        Err(refusal) => refusal.number(),
     }
-    let asked = read.event;
-    again(table, asked, times)
 }
 
 // Each time on the table as it was. The step is called at two places, so that the compiler leaves it a function of its own

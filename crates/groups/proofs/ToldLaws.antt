@@ -1,8 +1,8 @@
 -- What each return of the functions over a cursor says.
 use mathlib.Core.Path.{◌≡◌, refl, ap, sym, ◌∙◌}
-use mathlib.Core.List.{List, [], ◌∷◌, ◌++◌, append-nil, append_assoc}
+use mathlib.Core.List.{List, ◌++◌, append-nil, append_assoc}
 use mathlib.Core.Logic.{◌⊎◌, inl, inr}
-use Prim.Native.Nat.{ℕ, zero, suc, ◌+◌, ◌-◌, ◌<◌, ◌≤◌}
+use Prim.Native.Nat.{ℕ, suc, ◌+◌, ◌-◌, ◌<◌, ◌≤◌}
 use native.Mathlib.Omega.{arith}
 use native.Mathlib.Numerals.{add-one}
 use lib.ListN.{length, take, set, length-set}
@@ -14,13 +14,13 @@ use Rattle.std.proofs.lemmas.Result.{err_from_is_err_and}
 use Rattle.base.specs.Refusals.{refusal_number, unreadable}
 use Rattle.base.specs.declared.refusals.Refusal.{Refusal}
 use Rattle.base.specs.declared.refusals.Refusal.TheVariants.{OutsideBounds, NoReplica, NoColumn, BadDependency, BadBatch, OverLimit, NoSlot, ShortOrder, Cut, Unreadable, TooLong}
-use Rattle.groups.specs.Numbers.{Cursor, Number, read, stopped, number_at, joined}
+use Rattle.groups.specs.Numbers.{Cursor, Number, read, stopped, number_at}
 use Rattle.groups.specs.Cursor.{number_from, number_within, held_to, Numbers, numbers_from}
-use Rattle.groups.specs.Told.{numbered, standing, Tells, Took}
+use Rattle.groups.specs.Told.{standing, Took}
 use Rattle.groups.specs.declared.numbers.Number as Held
 use Rattle.groups.specs.declared.cursor.Cursor as Reader
 use Rattle.groups.proofs.CursorLaws.{from_place, held_stopped, held_under, held_over, held_in}
-use Rattle.groups.proofs.ReadLaws.{stays_stopped, numbers_stay_stopped}
+use Rattle.groups.proofs.ReadLaws.{numbers_stay_stopped}
 
 -- each refusal has a number, and 0 is none
 pub refusal_some : (r : Refusal) → 0 < refusal_number r

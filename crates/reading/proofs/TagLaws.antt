@@ -1,29 +1,24 @@
 -- An event by its tag: what each return of the function that reads one says.
-use mathlib.Core.Path.{◌≡◌, refl, ap, sym, ◌∙◌}
+use mathlib.Core.Path.{◌≡◌, refl}
 use mathlib.Core.List.{List}
 use mathlib.Core.Logic.{◌⊎◌, inl, inr}
 use Prim.Native.Nat.{ℕ}
 use Rattle.std.specs.Prelude.{Result, Ok, Err}
 use Rattle.std.specs.Result.{IsErrAnd}
-use Rattle.base.specs.LogStatus.{status_of}
 use Rattle.base.specs.declared.log_status.LogStatus.TheVariants.{Committed}
 use Rattle.base.specs.declared.refusals.Refusal.{Refusal}
-use Rattle.table.specs.declared.place.Place.{Place}
-use Rattle.outcomes.specs.declared.message.Message.{Message}
-use Rattle.outcomes.specs.declared.message.Proposal.{Proposal}
 use Rattle.steps.specs.Calls.{tag_of}
 use Rattle.steps.specs.declared.event.Tag.{Tag}
-use Rattle.steps.specs.declared.event.Tag.TheVariants.{PreAccept, Accept, CommitNotice, AcceptReply, ExpPrepare, Logged, Attempt, Lead}
+use Rattle.steps.specs.declared.event.Tag.TheVariants.{PreAccept, Accept, CommitNotice, AcceptReply, ExpPrepare, Attempt, Lead}
 use Rattle.steps.specs.declared.event.Event.{Event}
-use Rattle.groups.specs.Numbers.{Cursor, Number}
+use Rattle.groups.specs.Numbers.{Cursor}
 use Rattle.groups.specs.Cursor.{number_within}
 use Rattle.groups.specs.Told.{standing, Took}
 use Rattle.groups.specs.declared.cursor.Cursor as Reader
-use Rattle.groups.proofs.ReadLaws.{within_stays_stopped}
-use Rattle.groups.proofs.ToldLaws.{was_refused, passed_on, then_took}
-use Rattle.reading.specs.Fields.{PlaceRead, MessageRead, place_from, message_from}
+use Rattle.groups.proofs.ToldLaws.{passed_on, then_took}
+use Rattle.reading.specs.Fields.{place_from, message_from}
 use Rattle.reading.specs.Held.{held, held_proposal}
-use Rattle.reading.specs.Events.{ProposalRead, proposal_from, Found, by_tag, event_from, event, event_of, alone, from_nobody}
+use Rattle.reading.specs.Events.{proposal_from, Found, by_tag, event_from, event, event_of, alone, from_nobody}
 
 -- ---- what an event is, by what is read of it
 

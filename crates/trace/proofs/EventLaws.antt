@@ -11,8 +11,7 @@ use Rattle.steps.specs.Step.{step_of, step_order}
 use Rattle.steps.proofs.RoomLaws.{slots_run_lem}
 use Rattle.reading.specs.Held.{held}
 use Rattle.reader.specs.Reader.{rest_from}
-use Rattle.reader.specs.Next.{next_at}
-use Rattle.reader.specs.declared.next.Next.{Next}
+use Rattle.reader.specs.Next.{Next, next_at}
 use Rattle.reading.proofs.HeldLaws.{call_back, read_held, read_held_order}
 use Rattle.lines.specs.Line.{line_text}
 use Rattle.trace.specs.Turn.{refusal_text, stopped_run, event_text, found_by, next_by, turn_of, turn_text}
@@ -25,12 +24,11 @@ module _ (s : List ℕ) (run : Run) (r : Next) (e : r ≡ next_by s run) where
 
   -- ---- an event that cannot be read
 
-  pub turn_stopped : 0 < r.refusal → (x : Run) → x ≡ stopped_run r.at run r.refusal → x ≡ turn_of s run
-  unfolding turn_of next_at
+  pub turn_stopped : 0 < r.refusal → (x : Run) → x ≡ stopped_run (length s) run r.refusal → x ≡ turn_of s run
+  unfolding turn_of
   turn_stopped h x f =
       let n = ne_eqb (found_by s run).cursor.refusal 0 (λ z. omega (arith, found_refusal)) in
-      let at-end : r.at ≡ length s = rw (e, n) in
-      rw (n, found_refusal, ← at-end) f
+      rw (n, found_refusal) f
 
   pub text_stopped : 0 < r.refusal → refusal_text run r.refusal ≡ turn_text s run
   unfolding turn_text

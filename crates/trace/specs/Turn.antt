@@ -7,8 +7,7 @@ use Rattle.steps.specs.Step.{answer_to, after, slots_run}
 use Rattle.groups.specs.Cursor.{goes_on}
 use Rattle.reading.specs.Events.{Found}
 use Rattle.reader.specs.Reader.{rest_from}
-use Rattle.reader.specs.Next.{next_at}
-use Rattle.reader.specs.declared.next.Next.{Next}
+use Rattle.reader.specs.Next.{Next, next_at}
 use Rattle.lines.specs.Line.{line_text}
 use Rattle.trace.specs.Trace.{Played, found_at, played_from, said_text}
 use Rattle.trace.specs.declared.turn.Run.{Run}

@@ -52,16 +52,14 @@ pub fn run(trace: &[u8], text: &mut [u8]) -> Ran
     if LIMIT < trace.len() {
         return refuse(Refusal::TooLong.number(), text);
     }
-    let head = header(trace);
-    let cursor = head.cursor;
-    if 0 < cursor.refusal {
-        return refuse(cursor.refusal, text);
-    }
-    let config = head.config;
-    if !config.fits() {
+    let head = match header(trace) {
+        Ok(head) => head,
+        Err(refusal) => return refuse(refusal.number(), text),
+    };
+    if !head.config.fits() {
         return refuse(Refusal::OutsideBounds.number(), text);
     }
-    events(trace, config, cursor.at, text)
+    events(trace, head.config, head.next, text)
 }
 
 // The events of a trace whose header is within the bounds, and the bars after them.

@@ -1,9 +1,8 @@
-use mathlib.Core.Path.{◌≡◌, ap, sym, ◌∙◌}
+use mathlib.Core.Path.{sym, ◌∙◌}
 use Prim.Native.Nat.{◌+◌}
 use native.Mathlib.Omega.{arith}
 use Rattle.base.specs.Refusals.{refusal_number}
 use Rattle.groups.specs.Numbers.{read, stopped}
-use Rattle.groups.specs.Told.{numbered}
 use Rattle.groups.proofs.StepLaws.{number_cut, number_one, number_more, later_room, joins_stopped}
 use Rattle.groups.proofs.ToldLaws.{refusal_some, handed_on}
 use Rattle.groups.proofs.numbers.number_at.Goals as goal

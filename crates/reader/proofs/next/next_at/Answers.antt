@@ -1,4 +1,3 @@
-use mathlib.Core.Path.{refl}
 use Rattle.groups.proofs.ToldLaws.{handed_on}
 use Rattle.reader.specs.Next.{next_at}
 use Rattle.reader.proofs.next.next_at.Goals as goal

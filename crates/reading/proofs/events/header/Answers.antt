@@ -1,4 +1,4 @@
-use mathlib.Core.Path.{refl, ap}
+use mathlib.Core.Path.{ap}
 use Rattle.groups.specs.Numbers.{Cursor}
 use Rattle.groups.proofs.ToldLaws.{handed_on}
 use Rattle.reading.specs.Events.{header_of}

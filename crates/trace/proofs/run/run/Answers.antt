@@ -1,5 +1,9 @@
+use mathlib.Core.Path.{refl}
+use Prim.Native.Nat.{◌<◌}
 use native.Mathlib.Omega.{arith}
 use Rattle.base.proofs.Tests.{passed, failed}
+use Rattle.groups.proofs.ToldLaws.{refusal_some}
+use Rattle.reading.specs.Events.{header_of}
 use Rattle.trace.proofs.RunLaws.{run_short, run_is, trace_long, trace_unread, trace_outside, trace_opened}
 use Rattle.trace.proofs.run.run.Goals as goal
 
@@ -15,29 +19,32 @@ returns-then-trace-gt-LIMIT c =
     let is = run_is s c.args.text.now (omega arith) _ (trace_long s (omega arith)) c.refuse.result _ x.result x.list in
     record { result = is.0; list = is.1 }
 
-pub returns-then-cursor-gt0 : goal.returns-then-cursor-gt0
-returns-then-cursor-gt0 c =
+pub returns-in-Err : goal.returns-in-Err
+returns-in-Err c =
     let s = c.args.trace.now in
-    let h = c.header-head in
-    let x = c.refuse-then-cursor-gt0 in
-    let is =
-    run_is s c.args.text.now (omega arith) _ (trace_unread s (omega arith) h.result h.ensures c.if-cursor-gt0.true) x.result _ x.ensures.result x.ensures.list in
+    let h = header_of s in
+    let e = c.in-Err.ensures in
+    let l : 0 < h.cursor.refusal = omega (arith, e, refusal_some c.in-Err.refusal) in
+    let x = rw (c.number-in-Err.ensures, ← e) at c.refuse-in-Err.ensures in
+    let is = run_is s c.args.text.now (omega arith) _ (trace_unread s (omega arith) h refl l) c.refuse-in-Err.result _ x.result x.list in
     record { result = is.0; list = is.1 }
 
 pub returns-then-not-fits : goal.returns-then-not-fits
 returns-then-not-fits c =
     let s = c.args.trace.now in
-    let h = c.header-head in
+    let n = c.in-Ok.ensures in
     let x = rw c.number-then-not-fits.ensures at c.refuse-then-not-fits.ensures in
+    let fails = rw n.0 at (failed c.fits.ensures c.if-not-fits.true) in
     let is =
-    run_is s c.args.text.now (omega arith) _ (trace_outside s (omega arith) h.result h.ensures (omega arith) (failed c.fits.ensures c.if-not-fits.true)) c.refuse-then-not-fits.result _ x.result x.list in
+    run_is s c.args.text.now (omega arith) _ (trace_outside s (omega arith) (header_of s) refl n.1 fails) c.refuse-then-not-fits.result _ x.result x.list in
     record { result = is.0; list = is.1 }
 
 pub returns : goal.returns
 returns c =
     let s = c.args.trace.now in
-    let h = c.header-head in
-    let x = c.events in
+    let n = c.in-Ok.ensures in
+    let x = rw n.0 at c.events.ensures in
+    let passes = rw n.0 at (passed c.fits.ensures c.if-not-fits.false) in
     let is =
-    run_is s c.args.text.now (omega arith) _ (trace_opened s (omega arith) h.result h.ensures (omega arith) (passed c.fits.ensures c.if-not-fits.false)) x.result _ x.ensures.result x.ensures.list in
+    run_is s c.args.text.now (omega arith) _ (trace_opened s (omega arith) (header_of s) refl n.1 passes) c.events.result _ x.result x.list in
     record { result = is.0; list = is.1 }
