@@ -28,7 +28,7 @@ pub fn njb_step(image: &[u8], trace: &[u8], times: u64) -> u64
         return refusals::OUTSIDE_BOUNDS;
     }
     let table = table_at(image);
-    if !fits(table) {
+    if !fits(&table) {
         return refusals::OUTSIDE_BOUNDS;
     }
     let mut cursor = Cursor::on(trace, 0);

@@ -1,5 +1,5 @@
 -- The image's length, its bytes, the bounds, what is read of the trace, and then the event.
-use mathlib.Core.Path.{◌≡◌, sym, ◌∙◌}
+use mathlib.Core.Path.{◌≡◌, refl, sym, ◌∙◌}
 use mathlib.Core.List.{List}
 use mathlib.Core.Bool.{true}
 use Prim.Native.Nat.{ℕ}
@@ -10,6 +10,8 @@ use Rattle.bounds.specs.Bounds.{table_fits}
 use Rattle.bounds.proofs.BoundLaws.{table_fits_each}
 use Rattle.calls.specs.Calls.{image_long}
 use Rattle.image.specs.Tables.{table_at, image_known}
+use Rattle.groups.proofs.ToldLaws.{refusal_some}
+use Rattle.reading.specs.Events.{event_in}
 use Rattle.bench_values.specs.Values.{first_in, read_code, values_code}
 use Rattle.bench_values.proofs.ValuesLaws.{unread, read_on}
 use Rattle.bench_values.proofs.values.njb_step.Goals as goal
@@ -34,24 +36,25 @@ returns-then-not-fits c =
     let f = rw c.table_at-table.ensures at (failed c.fits.ensures c.if-not-fits.true) in
     rw (eq-eqb _ _ c.if-image-ne-WIDTH.false, passed c.is_known.ensures c.if-not-is_known.false, f)
 
-pub event-read-requires : goal.event-read-requires
-event-read-requires c = (table_fits_each c.table_at-table.result (passed c.fits.ensures c.if-not-fits.false)).config_fits.seven
+pub event-requires : goal.event-requires
+event-requires c = (table_fits_each c.table_at-table.result (passed c.fits.ensures c.if-not-fits.false)).config_fits.seven
 
-pub returns-then-cursor-gt0 : goal.returns-then-cursor-gt0
-returns-then-cursor-gt0 c =
+pub returns-in-Err : goal.returns-in-Err
+returns-in-Err c =
     let a = c.args in
     let t = table_at a.image.now in
     let fits = rw c.table_at-table.ensures at (passed c.fits.ensures c.if-not-fits.false) in
-    let found = rw c.table_at-table.ensures at c.event-read.ensures in
-    unread t a.trace.now c.event-read.result found a.times c.if-cursor-gt0.true
-    ∙ sym (past a.image.now a.trace.now a.times (eq-eqb _ _ c.if-image-ne-WIDTH.false) (passed c.is_known.ensures c.if-not-is_known.false) fits)
+    let told = rw (c.table_at-table.ensures, c.on-cursor.ensures) at c.in-Err.ensures.told in
+    rw (c.number.ensures, ← told)
+    (unread t a.trace.now (event_in (first_in a.trace.now t)) refl a.times (omega (arith, told, refusal_some c.in-Err.refusal))
+    ∙ sym (past a.image.now a.trace.now a.times (eq-eqb _ _ c.if-image-ne-WIDTH.false) (passed c.is_known.ensures c.if-not-is_known.false) fits))
 
-pub returns : goal.returns
-returns c =
+pub returns-in-Ok : goal.returns-in-Ok
+returns-in-Ok c =
     let a = c.args in
     let t = table_at a.image.now in
     let fits = rw c.table_at-table.ensures at (passed c.fits.ensures c.if-not-fits.false) in
-    let found = rw c.table_at-table.ensures at c.event-read.ensures in
-    let made = rw c.table_at-table.ensures at c.again.ensures in
-    read_on t a.trace.now c.event-read.result found a.times c.again.result (omega (arith, c.if-cursor-gt0.false)) made
+    let told = rw (c.table_at-table.ensures, c.on-cursor.ensures) at c.in-Ok.ensures.told in
+    let made = rw (c.table_at-table.ensures, told.0) at c.again.ensures in
+    read_on t a.trace.now (event_in (first_in a.trace.now t)) refl a.times c.again.result told.1 made
     ∙ sym (past a.image.now a.trace.now a.times (eq-eqb _ _ c.if-image-ne-WIDTH.false) (passed c.is_known.ensures c.if-not-is_known.false) fits)
