@@ -42,8 +42,7 @@ pub trait Shown {
         ensures value { result ≡ holds (table self.now) at }
         ensures inside { result ≡ true → (at.row < 7) × (at.col < 32) }
     {
-        let lens = self.lens();
-        at.row < lens.len() && at.col < lens[at.row].min(32)
+        at.is_in(self.lens())
     }
 }
 

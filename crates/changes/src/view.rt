@@ -54,7 +54,7 @@ fn slot_seen<S: Shown>(shown: &S, at: Place) -> Slot
     ensures { result ≡ slot_seen (S.table shown.now) at }
 {
     if shown.holds(at) {
-        shown.slot_no(32 * at.row + at.col)
+        shown.slot_no(at.index())
     } else {
         Slot::NULL
     }

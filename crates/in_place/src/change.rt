@@ -30,7 +30,7 @@ pub fn apply_at(image: &mut [u8], at: Place, slot: Slot, extent: Extent)
     if !extent.has_slot() {
         return;
     }
-    let start = slot_start(32 * at.row + at.col);
+    let start = slot_start(at.index());
     put_slot(image, start, slot);
     if !extent.has_keys() {
         return;

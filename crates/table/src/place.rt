@@ -1,5 +1,5 @@
 // A slot's place.
-ghost use Rattle.std.specs.Prelude.{◌≡◌, ◌<◌};
+ghost use Rattle.std.specs.Prelude.{◌≡◌, true, ◌&&◌, ltb, ◌<◌, get_or};
 ghost use Rattle.table.specs.Place.{index_of};
 
 #[derive(Clone, Copy, Debug, PartialEq, Eq)]
@@ -10,11 +10,19 @@ pub struct Place {
 
 impl Place {
     // Its index among the slots of all rows, 32 a row.
-    pub(crate) fn index(self) -> usize
+    pub fn index(self) -> usize
         requires row_bound { self.row < 7 }
         requires col_bound { self.col < 32 }
         ensures { result ≡ index_of self }
     {
         32 * self.row + self.col
+    }
+
+    // Whether rows of these lengths have a slot there; of 32 columns each at most.
+    pub fn is_in(self, lens: [usize; 7]) -> bool
+        ensures value { result ≡ (ltb self.col 32 && ltb self.col (get_or lens self.row 0)) }
+        ensures inside { result ≡ true → (self.row < 7) × (self.col < 32) }
+    {
+        self.row < 7 && self.col < 32 && self.col < lens[self.row]
     }
 }

@@ -43,7 +43,7 @@ impl Table {
     pub fn holds(self, at: Place) -> bool
         ensures { result ≡ holds self at }
     {
-        at.row < 7 && at.col < 32 && at.col < self.lens[at.row]
+        at.is_in(self.lens)
     }
 
     pub fn slot(self, at: Place) -> Slot

@@ -6,7 +6,7 @@ use Rattle.changes.proofs.view.slot_seen.Goals as goal
 
 pub returns-then-holds : goal.returns-then-holds
 unfolding slot_seen
-returns-then-holds g c = c.slot_no.ensures ∙ sym (rw (passed c.holds.ensures.value c.if-holds.true))
+returns-then-holds g c = rw c.index.ensures at c.slot_no.ensures ∙ sym (rw (passed c.holds.ensures.value c.if-holds.true))
 
 pub returns-else-holds : goal.returns-else-holds
 unfolding slot_seen

@@ -50,7 +50,7 @@ pub returns-then-not-has_keys : goal.returns-then-not-has_keys
 returns-then-not-has_keys c =
     let a = c.args in
     let nulls = passed c.has_nulls.ensures c.if-not-has_nulls.false in
-    put a.image.now a.at a.slot a.extent (filled a.image.now a.at c.rows_at-lens.ensures c.clear.ensures c.fill_at.ensures) nulls c.requires.inside (rw c.slot_start-start.ensures at c.put_slot.ensures)
+    put a.image.now a.at a.slot a.extent (filled a.image.now a.at c.rows_at-lens.ensures c.clear.ensures c.fill_at.ensures) nulls c.requires.inside (rw (c.slot_start-start.ensures, c.index.ensures) at c.put_slot.ensures)
     ∙ ap table_bytes (sym (slot_changed (table_at a.image.now) a.at a.slot a.extent (passed c.has_slot.ensures c.if-not-has_slot.false) (failed c.has_keys.ensures c.if-not-has_keys.true)))
 
 pub returns : goal.returns
@@ -64,7 +64,7 @@ returns c =
     let new = c.refresh-refreshed.ensures ∙ ap (λ (k : Keys). refreshed_by k a.at.row a.at.col a.slot.batch) keys in
     c.put_keys.ensures
     ∙ ap (λ (x : List ℕ). lay x 18 (keys_bytes c.refresh-refreshed.result))
-    (put l a.at a.slot a.extent (filled l a.at c.rows_at-lens.ensures c.clear.ensures c.fill_at.ensures) nulls c.requires.inside (rw c.slot_start-start.ensures at c.put_slot.ensures))
+    (put l a.at a.slot a.extent (filled l a.at c.rows_at-lens.ensures c.clear.ensures c.fill_at.ensures) nulls c.requires.inside (rw (c.slot_start-start.ensures, c.index.ensures) at c.put_slot.ensures))
     ∙ keys_put (put_at t a.at a.slot) c.refresh-refreshed.result
     ∙ ap (λ (k : Keys). table_bytes (with_keys (put_at t a.at a.slot) k)) new
     ∙ ap table_bytes (sym (keys_changed (table_at l) a.at a.slot a.extent (passed c.has_keys.ensures c.if-not-has_keys.false)))
