@@ -127,8 +127,8 @@ impl Rule {
 
 impl Votes {
     // The first holder of enough identical PreAccepting votes not from the row, if the highest ballot is the default one.
-    fn group(self, counts: Counts, prepare: Prepare) -> Option<usize>
-        ensures { result ≡ group_by counts prepare self.voted self.statuses self.entries }
+    fn group(&self, counts: Counts, prepare: Prepare) -> Option<usize>
+        ensures { result ≡ group_by counts prepare self.now.voted self.now.statuses self.now.entries }
     {
         if prepare.highest != prepare.default {
             return None;
@@ -141,15 +141,15 @@ impl Votes {
     }
 
     // The PreAccepting votes that are not from the row.
-    fn such(self, row: usize) -> [bool; 7]
-        ensures { result ≡ such_votes row self.voted self.statuses }
+    fn such(&self, row: usize) -> [bool; 7]
+        ensures { result ≡ such_votes row self.now.voted self.now.statuses }
     {
         std::array::from_fn(|r| self.is_vote(r, Status::PreAccepting) && r != row)
     }
 
     // The highest-numbered replica with a vote of the status.
-    fn highest(self, wanted: Status) -> Option<usize>
-        ensures { result ≡ highest_vote wanted self.voted self.statuses }
+    fn highest(&self, wanted: Status) -> Option<usize>
+        ensures { result ≡ highest_vote wanted self.now.voted self.now.statuses }
     {
         let mut highest = None;
         for r in 0..7 {
@@ -161,9 +161,9 @@ impl Votes {
     }
 
     // Whether the replica has a vote, and of the status.
-    fn is_vote(self, r: usize, wanted: Status) -> bool
+    fn is_vote(&self, r: usize, wanted: Status) -> bool
         requires { r < 7 }
-        ensures { result ≡ vote_at wanted self.voted self.statuses r }
+        ensures { result ≡ vote_at wanted self.now.voted self.now.statuses r }
     {
         self.voted[r] && self.statuses[r] == wanted
     }

@@ -15,7 +15,7 @@ loop-r-init c = (search rules, highest_none _)
 pub loop-r-preserved : goal.loop-r-preserved
 loop-r-preserved c =
     let a = c.args in
-    let p = vote_at a.wanted a.self.voted a.self.statuses in
+    let p = vote_at a.wanted a.self.now.voted a.self.now.statuses in
     let i = c.loop-r.r in
     let inv = c.loop-r.invariant.1 in
     let e = c.is_vote.ensures in

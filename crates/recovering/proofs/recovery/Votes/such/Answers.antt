@@ -8,4 +8,4 @@ pub returns : goal.returns
 unfolding such_votes
 returns c =
     let a = c.args in
-    made_below _ (such_at a.row a.self.voted a.self.statuses) _ c.from_fn.result (λ i y q k. search rules) 7 c.from_fn.ensures.items
+    made_below _ (such_at a.row a.self.now.voted a.self.now.statuses) _ c.from_fn.result (λ i y q k. search rules) 7 c.from_fn.ensures.items
