@@ -1,16 +1,16 @@
 -- What chains of iterators and arrays made by a function answer, in the words of specs/Below.
-use mathlib.Core.Path.{◌≡◌, refl, sym, ◌∙◌}
+use mathlib.Core.Path.{◌≡◌, refl, ap, sym, ◌∙◌}
 use mathlib.Core.List.{List, [], ◌∷◌}
-use mathlib.Core.Bool.{Bool, ◌&&◌, and-true, and_assoc}
+use mathlib.Core.Bool.{Bool, true, false, cond, ◌&&◌, and-true, and_assoc}
 use Prim.Native.Nat.{ℕ, suc, zero, ◌+◌, ◌<◌}
 use native.Mathlib.Omega.{arith}
 use lib.ListN.{length, get_or}
 use lib.Pointwise.{pointwise}
 use denote.Param.Members.{Mut, Called}
 use Rattle.std.specs.Array.{IsFromFnResultFrom, IsFromFnResult}
-use Rattle.std.specs.List.{list_all, enumerate_from}
+use Rattle.std.specs.List.{list_all, enumerate_from, filter}
 use Rattle.std.proofs.lemmas.List.FromFn.{length-enumerate_from, get_or-enumerate_from}
-use Rattle.base.specs.Below.{all_below}
+use Rattle.base.specs.Below.{all_below, count_below}
 
 -- ---- `all`
 
@@ -38,6 +38,31 @@ all_numbered {X} test l d =
   where
     each : (i : ℕ) → get_or (enumerate_from 0 l) i (0, d) ≡ (0 + i, get_or l i d) → test (get_or (enumerate_from 0 l) i (0, d)).0 (get_or (enumerate_from 0 l) i (0, d)).1 ≡ test i (get_or l i d)
     each i e = let z : 0 + i ≡ i = omega arith in rw (e, z)
+
+-- ---- `filter` and `count`
+
+count_front : (p : ℕ → Bool) (n : ℕ) → count_below (suc n) p ≡ cond (p 0) (suc (count_below n (λ i. p (suc i)))) (count_below n (λ i. p (suc i)))
+unfolding count_below
+count_front p zero = refl
+count_front p (suc n) = rw (count_front p n) (go (p 0) (p (suc n)))
+  where
+    m : ℕ
+    m = count_below n (λ i. p (suc i))
+
+    go : (a b : Bool) → cond b (suc (cond a (suc m) m)) (cond a (suc m) m) ≡ cond a (suc (cond b (suc m) m)) (cond b (suc m) m)
+    go true true = refl
+    go true false = refl
+    go false true = refl
+    go false false = refl
+
+pub count_listed : {X : Type 0} (test : X → Bool) (l : List X) (d : X) → length (filter test l) ≡ count_below (length l) (λ i. test (get_or l i d))
+unfolding count_below
+count_listed test [] d = refl
+count_listed test (x ∷ l) d = go (test x) (count_listed test l d) ∙ sym (count_front (λ i. test (get_or (x ∷ l) i d)) (length l))
+  where
+    go : (b : Bool) → length (filter test l) ≡ count_below (length l) (λ i. test (get_or l i d)) → length (cond b (x ∷ filter test l) (filter test l)) ≡ cond b (suc (count_below (length l) (λ i. test (get_or l i d)))) (count_below (length l) (λ i. test (get_or l i d)))
+    go true e = ap suc e
+    go false e = e
 
 -- ---- `std::array::from_fn`
 

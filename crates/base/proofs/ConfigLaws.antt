@@ -1,6 +1,6 @@
 -- Refusal 1 of a configuration, exactly when.
-use mathlib.Core.Path.{◌≡◌, refl}
-use mathlib.Core.Bool.{Bool, true, false}
+use mathlib.Core.Path.{◌≡◌}
+use mathlib.Core.Bool.{true}
 use borrow.Author.Tests.{lt-ltb, le-leb, ltb-true, leb-true}
 use Rattle.base.specs.Config.{Within, config_fits}
 use Rattle.base.specs.declared.config.Config.{Config}
@@ -27,10 +27,3 @@ pub each_config_fits : (c : Config) → Within c → config_fits c ≡ true
 unfolding config_fits
 each_config_fits c w =
     rw (le-leb _ _ w.some, le-leb _ _ w.seven, lt-ltb _ _ w.mine, le-leb _ _ w.quorum, le-leb _ _ w.rising, le-leb _ _ w.all)
-
-pub config_outside : (c : Config) → (Within c → ⊥) → config_fits c ≡ false
-config_outside c h = go (config_fits c) refl
-  where
-    go : (b : Bool) → config_fits c ≡ b → config_fits c ≡ false
-    go true e = absurd (h (config_fits_each c e))
-    go false e = e

@@ -211,12 +211,6 @@ module _ {A : Type 0} (n : ℕ) (f : ℕ → A) (d : List A) (e : length d ≡ n
 
 -- ---- a fold over what each element of a list's front gives, element by element
 
--- the front of a list that is as long as its front of n
-front_held : {A : Type 0} (n : ℕ) (l : List A) → take (length (take n l)) l ≡ take n l
-front_held zero l = refl
-front_held (suc n) [] = refl
-front_held {A} (suc n) (x ∷ l) = ap (λ (r : List A). x ∷ r) (front_held n l)
-
 module _ {A B S : Type 0} (f : S → B → S) (g : A → List B) (s : S) (l : List A) where
   -- the state after the first i elements
   abbrev pub folded : ℕ → S
@@ -237,7 +231,3 @@ module _ {A B S : Type 0} (f : S → B → S) (g : A → List B) (s : S) (l : Li
       turn
       ∙ ap (λ (x : S). foldl f x (g (get_or l i a))) before
       ∙ sym (rw (add-one, take-suc l i a, flat_append (take i l) (get_or l i a ∷ []), append-nil (g (get_or l i a)), foldl-append f s (flat_map g (take i l)) (g (get_or l i a))))
-
-  -- all of the front of n
-  pub fold_all : (n i : ℕ) → i ≡ length (take n l) → folded i ≡ folded n
-  fold_all n i e = rw (e, front_held n l)

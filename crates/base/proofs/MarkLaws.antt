@@ -1,11 +1,18 @@
 -- Laws of marks: when they fit, and how many there are.
-use mathlib.Core.Path.{◌≡◌, refl}
+use mathlib.Core.Path.{◌≡◌, refl, ◌∙◌}
 use mathlib.Core.List.{List}
-use mathlib.Core.Bool.{Bool, true, false, cond, or-true}
-use Prim.Native.Nat.{ℕ, zero, suc, ◌+◌, ◌<◌, ◌≤◌, min}
+use mathlib.Core.Bool.{Bool, true, false, cond, not, or-true, or-false}
+use Prim.Native.Nat.{ℕ, zero, suc, ◌+◌, ◌-◌, ◌<◌, ◌≤◌, min}
+use lib.Dec.{ltb}
+use lib.ListN.{length, get_or, drop, length-drop}
+use lib.Seq.{get_or-drop}
+use Rattle.std.specs.Cmp.{both_ways}
+use Rattle.std.specs.List.{list_all}
+use Rattle.base.specs.Below.{all_below}
+use Rattle.base.proofs.Chains.{all_listed}
 use native.Mathlib.Omega.{arith}
 use Rattle.base.specs.Below.{count_below}
-use borrow.Author.Tests.{lt-ltb, le-ltb, ltb-true}
+use borrow.Author.Tests.{lt-ltb, le-ltb, ltb-true, ltb-false}
 use Rattle.base.specs.Marks.{marked, mark_fits, marks_fit}
 use Rattle.base.proofs.Loops.{all_at, all_each}
 
@@ -33,6 +40,30 @@ each_marks_fit n marks h = all_each (mark_fits n marks) 7 (λ r l. go r l (marke
     go : (r : ℕ) → r < 7 → (b : Bool) → marked marks r ≡ b → mark_fits n marks r ≡ true
     go r l true e = fits_below n marks r (h r l e)
     go r l false e = fits_unmarked n marks r e
+
+-- a chain that passes over the first n tests as much
+pub rest_unmarked : (n : ℕ) (marks : List Bool) → length marks ≡ 7 → list_all not (drop n marks) ≡ marks_fit n marks
+unfolding marks_fit
+rest_unmarked n marks l =
+    all_listed not (drop n marks) false
+    ∙ both_ways _ _
+    (λ h. all_each (mark_fits n marks) 7 (λ r k. go h r k (ltb r n) refl))
+    (λ h. all_each (λ i. not (get_or (drop n marks) i false)) (length (drop n marks)) (λ i k. rest i (omega (arith, length-drop n marks)) (all_at (mark_fits n marks) 7 h (n + i) (omega (arith, length-drop n marks)))))
+  where
+    Rest : Type 0
+    Rest = all_below (length (drop n marks)) (λ i. not (get_or (drop n marks) i false)) ≡ true
+
+    go : Rest → (r : ℕ) → r < 7 → (b : Bool) → ltb r n ≡ b → mark_fits n marks r ≡ true
+    go h r k true e = fits_below n marks r (ltb-true r n e)
+    go h r k false e =
+        let le = ltb-false r n e in
+        let z : n + (r - n) ≡ r = omega arith in
+        let t = all_at (λ i. not (get_or (drop n marks) i false)) (length (drop n marks)) h (r - n) (omega (arith, length-drop n marks)) in
+        let u : not (marked marks r) ≡ true = rw (get_or-drop, z) at t in
+        rw u
+
+    rest : (i : ℕ) → i < 7 → mark_fits n marks (n + i) ≡ true → not (get_or (drop n marks) i false) ≡ true
+    rest i k h = rw get_or-drop (rw (le-ltb (n + i) n (omega arith), or-false) at h)
 
 -- ---- two tests that no number below n passes both of, and none from n on passes either: together they count at most n
 

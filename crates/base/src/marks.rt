@@ -6,23 +6,12 @@ ghost use Rattle.base.specs.Marks.{count_of, marks_fit};
 pub fn count(marks: [bool; 7]) -> usize
     ensures { result ≡ count_of marks }
 {
-    let mut number = 0;
-    for mark in marks {
-        if mark {
-            number += 1;
-        }
-    }
-    number
+    marks.iter().filter(|&&mark| mark).count()
 }
 
 // No replica at n or more is marked.
 pub fn fit(marks: [bool; 7], n: usize) -> bool
     ensures { result ≡ marks_fit n marks }
 {
-    for r in n..7 {
-        if marks[r] {
-            return false;
-        }
-    }
-    true
+    marks.iter().skip(n).all(|&mark| !mark)
 }

@@ -9,6 +9,7 @@ use borrow.Author.Tests.{lt-ltb, ltb-true, ltb-false, leb-true, leb-false, eqb-t
 use lib.Dec.{ltb, leb, eqb}
 use lib.Pointwise.{pointwise}
 use Rattle.std.proofs.lemmas.Slice.Eq.{bytes_eq-Decides}
+use Rattle.std.specs.Cmp.{both_ways}
 use lib.ListN.{length, get_or, set}
 use lib.Seq.{ext_get_or, set_out, set-set, get_or-set_same, get_or-set_other}
 use Rattle.deps.specs.Sets.{Dep, nothing, column, dep_of, set_of, number, in_row, empty_set, dep_fits, row_fits, set_fits, greater_dep, greater_each, union_of, raised_to, same_row, same_set, AtMost}
@@ -203,12 +204,7 @@ same_itself a = all_each (same_row a a) 7 (λ row l. eq-eqb (number a row) (numb
 pub same_pointwise : (a b : DepSet) → length a.cols ≡ 7 → length b.cols ≡ 7 → pointwise eqb a.cols b.cols ≡ same_set a b
 same_pointwise a b la lb =
     let d = bytes_eq-Decides a.cols b.cols in
-    go (pointwise eqb a.cols b.cols) (same_set a b) (λ h. ap (λ (l : List ℕ). same_set a (set_of l)) (sym (d.0 h)) ∙ same_itself a) (λ h. d.1 (ap (λ (x : DepSet). x.cols) (same_sets a b la lb h)))
-  where
-    go : (r s : Bool) → (r ≡ true → s ≡ true) → (s ≡ true → r ≡ true) → r ≡ s
-    go true s f g = sym (f refl)
-    go false true f g = g refl
-    go false false f g = refl
+    both_ways (pointwise eqb a.cols b.cols) (same_set a b) (λ h. ap (λ (l : List ℕ). same_set a (set_of l)) (sym (d.0 h)) ∙ same_itself a) (λ h. d.1 (ap (λ (x : DepSet). x.cols) (same_sets a b la lb h)))
 
 -- so it is an equivalence, whatever the lengths
 pub sym_sets : (a b : DepSet) → same_set a b ≡ true → same_set b a ≡ true

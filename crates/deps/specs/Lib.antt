@@ -1,2 +1,3 @@
 pub mod Sets
 pub mod Batches
+pub mod Equal

@@ -1,6 +1,8 @@
 // Kinds, requests and batches, by value.
 ghost use Rattle.std.specs.Prelude.{◌≡◌, [], ◌∷◌, length};
 ghost use Rattle.deps.specs.Batches.{batch_of, with_request, present, kind_fits, batch_fits, same_batch};
+ghost use Rattle.deps.specs.Equal.{batches_alike};
+ghost use Rattle.std.specs.Cmp.{partial_equiv_from_equiv};
 
 // A key is wider than its bound, so that one out of bounds can be held, and refused.
 #[derive(Clone, Copy, Debug, PartialEq, Eq)]
@@ -97,6 +99,21 @@ impl Batch {
     pub fn same(self, other: Batch) -> bool
         ensures { result ≡ same_batch self other }
     {
+        self == other
+    }
+}
+
+// Not derived: what stands past the count is not compared.
+impl PartialEq for Batch {
+    ghost eq = { same_batch };
+
+    ghost laws = { partial_equiv_from_equiv batches_alike };
+
+    fn eq(&self, other: &Batch) -> bool {
         self.count == other.count && self.requests() == other.requests()
     }
+}
+
+impl Eq for Batch {
+    ghost laws = { batches_alike };
 }

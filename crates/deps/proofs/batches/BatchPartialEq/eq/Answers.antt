@@ -1,4 +1,4 @@
--- `deps::batches::Batch::same` meets its contract: the count, and then `==` of the requests that both hold.
+-- `==` of `deps::batches::Batch` meets its contract: the count, and then `==` of the requests that both hold.
 use mathlib.Core.Path.{◌≡◌, ◌∙◌}
 use lib.ListN.{length}
 use borrow.Author.Tests.{ne_eqb}
@@ -6,13 +6,13 @@ use borrow.Author.Rules.{rules}
 use Rattle.base.proofs.Lists.{length_mapped}
 use Rattle.deps.specs.Batches.{same_batch, same_request}
 use Rattle.deps.proofs.BatchLaws.{present_same}
-use Rattle.deps.proofs.batches.Batch.same.Goals as goal
+use Rattle.deps.proofs.batches.BatchPartialEq.eq.Goals as goal
 
 pub returns-then-self-other : goal.returns-then-self-other
 unfolding same_batch same_request
 returns-then-self-other c =
-    let a = c.args.self in
-    let b = c.args.other in
+    let a = c.args.self.now in
+    let b = c.args.other.now in
     let la : length a.reqs ≡ 4 = search (rules, length_mapped) in
     let lb : length b.reqs ≡ 4 = search (rules, length_mapped) in
     rw (c.requests.ensures, c.requests-then-self-other.ensures) at c.eq.ensures
