@@ -15,5 +15,5 @@ returns c =
     let marks = c.args.marks in
     let n = c.args.n in
     let l : length marks ≡ 7 = search rules in
-    all_from_yields_List not _ _ _ c.all.ensures.ran (YieldsList-from_skip n (YieldsList-from_slice marks (cc)) (cc)) (λ x b q k. search (rules, tests))
+    all_from_yields_List not _ _ _ c.all.ensures.ran (YieldsList-from_skip n (YieldsList-from_slice marks (cc)) c.skip.ensures.count) (λ x b q k. search (rules, tests))
     ∙ rest_unmarked n marks l
