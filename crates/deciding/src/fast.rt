@@ -11,7 +11,7 @@ use passed::sevens::{sets_at, words_at};
 use passed::slices::marks_known;
 use votes::answer::Decision;
 
-// On slices of any length.
+// On slices of any length. Beside `choosing::recovery::answer`: what both share is `answered`, and their slices differ.
 pub fn answer(config: Config, avoided: u64, replies: &[u8], silent: &[u8], out: &mut [u8]) -> u64
     ensures result { result ≡ fast_code config avoided replies.now silent.now out.old }
     ensures bytes { out.new ≡ fast_bytes config avoided replies.now silent.now out.old }

@@ -147,7 +147,7 @@ impl Votes {
         std::array::from_fn(|r| self.is_vote(r, Status::PreAccepting) && r != row)
     }
 
-    // The highest-numbered replica with a vote of the status.
+    // The highest-numbered replica with a vote of the status: std's lemmas say nothing of a search from a range's end.
     fn highest(&self, wanted: Status) -> Option<usize>
         ensures { result ≡ highest_vote wanted self.now.voted self.now.statuses }
     {

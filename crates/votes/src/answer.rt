@@ -4,7 +4,8 @@ ghost use Rattle.votes.specs.Answer.{goes_on_with};
 
 use super::contents::Contents;
 
-// What to do, and what to go on with: there is nothing to go on with in a wait or a refusal.
+// What to do, and what to go on with: there is nothing to go on with in a wait or a refusal. A refusal is a number and no
+// Refusal: what is promised of it (`unless_refused`, `fast_refused`, `choice_refused`) is promised of every number.
 #[derive(Clone, Copy)]
 pub enum Decision {
     Wait,

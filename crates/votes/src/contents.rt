@@ -27,7 +27,7 @@ impl Contents {
         batch: Batch::NO_OP,
     };
 
-    // Whether sequence, dependencies and batch are equal.
+    // Whether sequence, dependencies and batch are equal. No derived ==: of a batch only the requests that it holds are compared.
     pub(crate) fn same(self, other: Contents) -> bool
         ensures { result ≡ same_contents self other }
     {
