@@ -1,21 +1,18 @@
 -- What a call comes to: refused, ignored or done, case by case and with what is known there.
-use mathlib.Core.Path.{◌≡◌, refl}
+use mathlib.Core.Path.{◌≡◌}
 use mathlib.Core.List.{List, [], ◌∷◌}
-use mathlib.Core.Bool.{Bool, true, false, cond, ◌&&◌}
-use Prim.Native.Nat.{ℕ, zero, suc, ◌<◌, ◌≤◌}
+use mathlib.Core.Bool.{true, false, ◌&&◌}
+use Prim.Native.Nat.{ℕ, ◌<◌, ◌≤◌}
 use native.Mathlib.Omega.{arith}
-use borrow.Author.Tests.{ltb-true, ltb-false, leb-true, leb-false}
-use lib.Dec.{ltb, leb}
 use Rattle.base.specs.Refusals.{over_limit, sequence_limit}
 use Rattle.base.specs.Marks.{count_of}
-use Rattle.base.proofs.Loops.{both_true}
 use Rattle.slots.specs.Slot.{leading, with_mark, committed}
 use Rattle.table.specs.Table.{holds, slot_of, put_at, nulls_to}
 use Rattle.table.specs.declared.place.Place.{Place}
 use Rattle.slots.specs.declared.slot.Slot.{Slot}
 use Rattle.table.specs.declared.table.Table.{Table}
 use Rattle.outcomes.specs.Output.{log_of, notice_of}
-use Rattle.outcomes.specs.Outcome.{Handled, refused, ignored, done, unless_refused}
+use Rattle.outcomes.specs.Outcome.{Handled, refused, ignored, done}
 use Rattle.outcomes.specs.Refusal.{message_refusal, proposal_refusal, lead_refusal}
 use Rattle.outcomes.specs.declared.message.Message.{Message}
 use Rattle.outcomes.specs.declared.message.Proposal.{Proposal}
@@ -37,9 +34,6 @@ Each R I D (done u records) = D u records
 
 abbrev pub WhenRefused : (ℕ → Type 0) → Handled → Type 0
 WhenRefused R = Each R (λ u. Unit) (λ u records. Unit)
-
-abbrev pub WhenIgnored : (Table → Type 0) → Handled → Type 0
-WhenIgnored I = Each (λ k. Unit) I (λ u records. Unit)
 
 abbrev pub WhenDone : (Table → List Record → Type 0) → Handled → Type 0
 WhenDone D = Each (λ k. Unit) (λ u. Unit) D
@@ -67,14 +61,6 @@ slot_marked t m = with_mark (slot_of t m.at) m.peer
 -- ---- the cases of each handler
 
 module _ (P : Handled → Type 0) where
-  unless_cases : (n : ℕ) (h : Handled) → (0 < n → P (refused n)) → (n ≡ 0 → P h) → P (unless_refused n h)
-  unless_cases zero h f g = g refl
-  unless_cases (suc k) h f g = f (omega arith)
-
-  cond_cases : (b : Bool) (x y : Handled) → (b ≡ true → P x) → (b ≡ false → P y) → P (cond b x y)
-  cond_cases true x y f g = f refl
-  cond_cases false x y f g = g refl
-
   -- ballot below the slot's; the sequence about to be stored over the limit; stored
   pub proposed_cases : (phase : Phase) (t : Table) (p : Proposal)
       → (0 < proposal_refusal t p → P (refused (proposal_refusal t p)))
@@ -83,14 +69,7 @@ module _ (P : Handled → Type 0) where
       → (Taken t p → (slot_before t p.message).ballot ≤ p.message.ballot → (to_store phase t p).seq ≤ sequence_limit → P (logged (filled t p.message) p.message.at (slot_after phase t p)))
       → P (proposed phase t p)
   unfolding proposed
-  proposed_cases phase t p number below over stored =
-      unless_cases (proposal_refusal t p) _ number
-      (λ e. let taken = proposal_taken t p e in
-      cond_cases (leb (slot_before t p.message).ballot p.message.ballot) _ _
-      (λ a. cond_cases (leb (to_store phase t p).seq sequence_limit) _ _
-      (λ b. stored taken (leb-true _ _ a) (leb-true _ _ b))
-      (λ b. over taken (leb-true _ _ a) (leb-false _ _ b)))
-      (λ a. below taken (leb-false _ _ a)))
+  proposed_cases phase t p number below over stored = grind (arith, proposal_taken)
 
   -- the slot absent or one that does not heed it; a mark
   pub reply_cases : (t : Table) (m : Message)
@@ -99,12 +78,7 @@ module _ (P : Handled → Type 0) where
       → (Heard t m → holds t m.at ≡ true → heeds (slot_of t m.at) m ≡ true → P (on_mark t m.at (slot_marked t m)))
       → P (accept_reply t m)
   unfolding accept_reply
-  reply_cases t m number not-heeded heeded =
-      unless_cases (message_refusal t m) _ number
-      (λ e. let heard = message_heard t m e in
-      cond_cases (holds t m.at && heeds (slot_of t m.at) m) _ _
-      (λ a. let b = both_true _ _ a in heeded heard b.0 b.1)
-      (λ a. not-heeded heard a))
+  reply_cases t m number not-heeded heeded = grind (arith, message_heard)
 
   -- with it too few, or enough
   pub mark_cases : (t : Table) (at : Place) (s : Slot)
@@ -112,8 +86,7 @@ module _ (P : Handled → Type 0) where
       → (t.config.simple ≤ count_of s.marks → P (done (put_at t at (committed s)) (log_of at (committed s) ∷ notice_of at (committed s) ∷ [])))
       → P (on_mark t at s)
   unfolding on_mark
-  mark_cases t at s few enough =
-      cond_cases (leb t.config.simple (count_of s.marks)) _ _ (λ a. enough (leb-true _ _ a)) (λ a. few (leb-false _ _ a))
+  mark_cases t at s few enough = grind arith
 
   -- ballot not strictly greater; replied
   pub prepare_cases : (t : Table) (m : Message)
@@ -122,14 +95,11 @@ module _ (P : Handled → Type 0) where
       → (Heard t m → (slot_before t m).ballot < m.ballot → P (replied (filled t m) m))
       → P (exp_prepare t m)
   unfolding exp_prepare
-  prepare_cases t m number not-greater greater =
-      unless_cases (message_refusal t m) _ number
-      (λ e. let heard = message_heard t m e in
-      cond_cases (ltb (slot_before t m).ballot m.ballot) _ _ (λ a. greater heard (ltb-true _ _ a)) (λ a. not-greater heard (ltb-false _ _ a)))
+  prepare_cases t m number not-greater greater = grind (arith, message_heard)
 
   pub lead_cases : (t : Table) (at : Place)
       → (0 < lead_refusal t at → P (refused (lead_refusal t at)))
       → (Led t at → P (done (put_at t at (leading (slot_of t at))) []))
       → P (lead_slot t at)
   unfolding lead_slot
-  lead_cases t at number led = unless_cases (lead_refusal t at) _ number (λ e. led (lead_led t at e))
+  lead_cases t at number led = grind (arith, lead_led)

@@ -1,12 +1,11 @@
 -- A call is refused exactly when the table of refusals says so, and a refused call leaves everything as it was.
-use mathlib.Core.Path.{◌≡◌, refl, ap, sym, ◌∙◌}
+use mathlib.Core.Path.{◌≡◌, refl}
 use mathlib.Core.List.{[]}
 use mathlib.Core.Logic.{◌↔◌, ◌⊎◌, inl, inr}
-use mathlib.Core.Bool.{Bool, true, false}
+use mathlib.Core.Bool.{true, false}
 use Prim.Native.Nat.{ℕ, zero, suc, ◌<◌, ◌≤◌}
 use native.Mathlib.Omega.{arith}
-use borrow.Author.Tests.{lt-ltb, le-ltb, le-leb, lt-leb, ltb-true, ltb-false, leb-false}
-use lib.Dec.{ltb}
+use borrow.Author.Tests.{ltb-true, ltb-false, leb-false}
 use Rattle.base.specs.Refusals.{first_refusal, outside_bounds, no_replica, no_column, bad_dependency, bad_batch, over_limit, no_slot, sequence_limit}
 use Rattle.base.specs.declared.answer.Answer.TheVariants.{Refused}
 use Rattle.base.proofs.RefusalLaws.{passed_first, at_first}
@@ -17,20 +16,18 @@ use Rattle.bounds.specs.Bounds.{table_fits}
 use Rattle.table.specs.declared.place.Place.{Place}
 use Rattle.table.specs.declared.table.Table.{Table}
 use Rattle.outcomes.specs.Output.{output_of}
-use Rattle.outcomes.specs.Outcome.{Handled, refused, ignored, done, outcome_of, unless_refused}
+use Rattle.outcomes.specs.Outcome.{Handled, refused, ignored, outcome_of}
 use Rattle.outcomes.specs.Refusal.{message_tests, contents_tests, lead_tests, message_refusal, proposal_refusal, lead_refusal}
 use Rattle.outcomes.specs.declared.message.Message.{Message}
 use Rattle.outcomes.specs.declared.message.Proposal.{Proposal}
 use Rattle.proposing.specs.Proposals.{proposed}
 use Rattle.proposing.specs.declared.proposals.Phase.{Phase}
-use Rattle.proposing.specs.declared.proposals.Phase.TheVariants.{PreAccept, Accept, CommitNotice}
-use Rattle.handlers.specs.Replies.{accept_reply}
+use Rattle.proposing.specs.declared.proposals.Phase.TheVariants.{PreAccept}
+use Rattle.handlers.specs.Replies.{on_mark, accept_reply}
 use Rattle.handlers.specs.Prepare.{exp_prepare}
 use Rattle.handlers.specs.Lead.{lead_slot}
-use Rattle.outcomes.proofs.OutcomeLaws.{when_refused, when_not}
-use Rattle.outcomes.proofs.RefusalLaws.{Placed, Heard, Taken, message_heard, head_refused, head_passed}
-use Rattle.proposing.proofs.TestLaws.{sequence_over}
-use Rattle.handlers.proofs.CaseLaws.{WhenRefused, filled, slot_before, to_store, proposed_cases, reply_cases, mark_cases, prepare_cases, lead_cases}
+use Rattle.outcomes.proofs.RefusalLaws.{Placed, Heard, Taken, message_heard, proposal_taken, head_refused, head_passed}
+use Rattle.handlers.proofs.CaseLaws.{slot_before, to_store}
 
 -- ---- what a refused call leaves, and what an ignored one puts out
 
@@ -42,12 +39,7 @@ ignored_puts_out t u = refl
 
 -- the answer is a refusal's number exactly where the call is refused with it
 pub answers_refused : (t : Table) (h : Handled) (k : ℕ) → ((outcome_of t h).answer ≡ Refused k) ↔ (h ≡ refused k)
-answers_refused t h k = (go h, λ e. ap (λ (x : Handled). (outcome_of t x).answer) e)
-  where
-    go : (x : Handled) → (outcome_of t x).answer ≡ Refused k → x ≡ refused k
-    go (refused n) e = cc
-    go (ignored u) e = cc
-    go (done u records) e = cc
+answers_refused t h k = grind arith
 
 -- ---- when each number is given, in the order of the numbers
 
@@ -76,11 +68,6 @@ pub data LeadRefused (t : Table) (at : Place) : ℕ → Type 0 where
   no_column_lem : table_fits t ≡ true → at.row < t.config.n → 32 ≤ at.col → LeadRefused t at no_column
   no_slot_lem : Placed t at → holds t at ≡ false → LeadRefused t at no_slot
 
--- ---- a refusal that is not 0
-
-refused_as : {n k : ℕ} (h : Handled) → (n ≡ k) × (0 < k) → unless_refused n h ≡ refused k
-refused_as {n} h e = when_refused n h (omega arith) ∙ ap refused e.0
-
 -- ---- a message
 
 module _ (t : Table) (m : Message) where
@@ -100,37 +87,21 @@ module _ (t : Table) (m : Message) where
 
   message_number : {k : ℕ} → MessageRefused t m k → (message_refusal t m ≡ k) × (0 < k)
   unfolding message_refusal first_refusal
-  message_number (outside e) = (rw e, omega arith)
-  message_number (no_replica_lem w (inl l)) = (rw (w, le-ltb _ _ l), omega arith)
-  message_number (no_replica_lem w (inr l)) = (go (ltb m.peer t.config.n) refl, omega arith)
-    where
-      go : (b : Bool) → ltb m.peer t.config.n ≡ b → first_refusal (message_tests t m) ≡ no_replica
-      go true e = rw (w, e, le-ltb _ _ l)
-      go false e = rw (w, e)
-  message_number (no_column_lem w l r c) = (rw (w, lt-ltb _ _ l, lt-ltb _ _ r, le-ltb _ _ c), omega arith)
+  message_number e = grind arith
 
   -- none where all is as it should be
   pub heard_passed : Heard t m → message_refusal t m ≡ 0
   unfolding message_refusal
-  heard_passed h =
-      passed_first (message_tests t m) (h.placed.within, (lt-ltb _ _ h.peer, (lt-ltb _ _ h.placed.row, (lt-ltb _ _ h.placed.col, tt))))
+  heard_passed h = grind (arith, passed_first)
 
 -- AcceptReply and ExpPrepare are refused for nothing else
 pub reply_exactly : (t : Table) (m : Message) (k : ℕ) → (accept_reply t m ≡ refused k) ↔ MessageRefused t m k
-unfolding accept_reply
-reply_exactly t m k = (λ e. rw e at says, λ r. refused_as _ (message_number t m r))
-  where
-    says : WhenRefused (MessageRefused t m) (accept_reply t m)
-    says =
-        reply_cases (WhenRefused (MessageRefused t m)) t m (some_message t m) (λ h e. tt)
-        (λ h e f. mark_cases (WhenRefused (MessageRefused t m)) t m.at _ (λ l. tt) (λ l. tt))
+unfolding accept_reply on_mark
+reply_exactly t m k = grind (arith, message_number, some_message)
 
 pub prepare_exactly : (t : Table) (m : Message) (k : ℕ) → (exp_prepare t m ≡ refused k) ↔ MessageRefused t m k
 unfolding exp_prepare
-prepare_exactly t m k = (λ e. rw e at says, λ r. refused_as _ (message_number t m r))
-  where
-    says : WhenRefused (MessageRefused t m) (exp_prepare t m)
-    says = prepare_cases (WhenRefused (MessageRefused t m)) t m (some_message t m) (λ h l. tt) (λ h l. tt)
+prepare_exactly t m k = grind (arith, message_number, some_message)
 
 -- ---- a proposal
 
@@ -144,14 +115,11 @@ module _ (t : Table) (p : Proposal) where
 
   contents_number : {k : ℕ} → ContentsRefused t p k → (proposal_refusal t p ≡ k) × (0 < k)
   unfolding first_refusal
-  contents_number (bad_dependency_lem h d) = (head_passed t p (heard_passed t p.message h) ∙ rw d, omega arith)
-  contents_number (bad_batch_lem h d b) = (head_passed t p (heard_passed t p.message h) ∙ rw (d, b), omega arith)
-  contents_number (over_limit_lem h d b s) = (head_passed t p (heard_passed t p.message h) ∙ rw (d, b, lt-leb _ _ s), omega arith)
+  contents_number e = grind (arith, head_passed, heard_passed)
 
   -- none where all is as it should be
   pub taken_passed : Taken t p → proposal_refusal t p ≡ 0
-  taken_passed h =
-      head_passed t p (heard_passed t p.message h.heard) ∙ passed_first (contents_tests t p) (h.deps, (h.batch, (le-leb _ _ h.seq, tt)))
+  taken_passed h = grind (arith, head_passed, heard_passed, passed_first)
 
   module _ (phase : Phase) where
     some_proposal : 0 < proposal_refusal t p → ProposalRefused phase t p (proposal_refusal t p)
@@ -167,28 +135,15 @@ module _ (t : Table) (p : Proposal) where
 
     proposal_is : {k : ℕ} → ProposalRefused phase t p k → proposed phase t p ≡ refused k
     unfolding proposed
-    proposal_is (by_message {k = k} r) =
-        let n = message_number t p.message r in
-        refused_as _ (sym (head_refused t p k (sym n.0) n.1), n.1)
-    proposal_is (by_contents r) = refused_as _ (contents_number r)
-    proposal_is (stored_over h b s) = when_not _ _ (taken_passed h) ∙ sequence_over phase (filled t p.message) p b s
+    proposal_is e = grind (arith, message_number, head_refused, contents_number, taken_passed)
 
 pub proposed_exactly : (phase : Phase) (t : Table) (p : Proposal) (k : ℕ) → (proposed phase t p ≡ refused k) ↔ ProposalRefused phase t p k
-proposed_exactly phase t p k = (λ e. rw e at says, proposal_is t p phase)
-  where
-    says : WhenRefused (ProposalRefused phase t p) (proposed phase t p)
-    says =
-        proposed_cases (WhenRefused (ProposalRefused phase t p)) phase t p
-        (some_proposal t p phase)
-        (λ h b. tt)
-        stored_over
-        (λ h b s. tt)
+unfolding proposed
+proposed_exactly phase t p k = grind (arith, some_proposal, proposal_is, proposal_taken, stored_over)
 
 -- only a PreAccept can be about to store what was not given
 pub only_pre_accept_over : (phase : Phase) (t : Table) (p : Proposal) → Taken t p → sequence_limit < (to_store phase t p).seq → phase ≡ PreAccept
-only_pre_accept_over PreAccept t p h s = refl
-only_pre_accept_over Accept t p h s = absurd (omega (arith, h.seq))
-only_pre_accept_over CommitNotice t p h s = absurd (omega (arith, h.seq))
+only_pre_accept_over phase t p e f = grind arith
 
 -- ---- Lead
 
@@ -209,14 +164,8 @@ module _ (t : Table) (at : Place) where
 
   pub lead_number : {k : ℕ} → LeadRefused t at k → (lead_refusal t at ≡ k) × (0 < k)
   unfolding lead_refusal first_refusal
-  lead_number (outside e) = (rw e, omega arith)
-  lead_number (no_row w l) = (rw (w, le-ltb _ _ l), omega arith)
-  lead_number (no_column_lem w r c) = (rw (w, lt-ltb _ _ r, le-ltb _ _ c), omega arith)
-  lead_number (no_slot_lem h e) = (rw (h.within, lt-ltb _ _ h.row, lt-ltb _ _ h.col, e), omega arith)
+  lead_number e = grind arith
 
   pub lead_exactly : (k : ℕ) → (lead_slot t at ≡ refused k) ↔ LeadRefused t at k
   unfolding lead_slot
-  lead_exactly k = (λ e. rw e at says, λ r. refused_as _ (lead_number r))
-    where
-      says : WhenRefused (LeadRefused t at) (lead_slot t at)
-      says = lead_cases (WhenRefused (LeadRefused t at)) t at some_lead (λ h. tt)
+  lead_exactly k = grind (arith, lead_number, some_lead)

@@ -1,18 +1,13 @@
 -- What the slot holds after each handler, what is put out, and what stays.
-use mathlib.Core.Path.{◌≡◌, refl, ap, sym, ◌∙◌}
+use mathlib.Core.Path.{◌≡◌, refl, ap, ◌∙◌}
 use mathlib.Core.List.{List, [], ◌∷◌}
-use mathlib.Core.Bool.{true, false, true≢false}
+use mathlib.Core.Bool.{true, false}
 use Prim.Native.Nat.{ℕ, suc, ◌<◌, ◌≤◌}
 use native.Mathlib.Omega.{arith}
-use borrow.Author.Tests.{eqb-true, eq-eqb, not-true}
-use lib.Dec.{eqb}
 use lib.ListN.{length}
 use Rattle.base.specs.Refusals.{sequence_limit}
 use Rattle.base.specs.Marks.{marked, count_of}
-use Rattle.base.specs.Status.{rank_of}
-use Rattle.base.specs.declared.status.Status.{Status}
-use Rattle.base.specs.declared.status.Status.TheVariants.{Null, PreAccepting, Accepting, Committed, Executed}
-use Rattle.base.proofs.Loops.{both_true}
+use Rattle.base.specs.declared.status.Status.TheVariants.{Accepting}
 use Rattle.deps.specs.Sets.{column, in_row, AtMost}
 use Rattle.deps.specs.declared.batches.Batch.{Batch}
 use Rattle.deps.proofs.SetLaws.{union_left, union_right}
@@ -27,23 +22,20 @@ use Rattle.table.specs.declared.table.Table.{Table}
 use Rattle.table.proofs.SlotReads.{nulls_hold, put_there, put_elsewhere, stored_there, stored_elsewhere, stored_config, stored_lens, stored_bars, stored_keys, nulls_config, nulls_bars, nulls_keys, nulls_length, nulls_kept}
 use Rattle.bounds.proofs.HighestLaws.{highest_at}
 use Rattle.outcomes.specs.Output.{log_of, notice_of, reply_of}
-use Rattle.outcomes.specs.Outcome.{Handled, ignored, done}
+use Rattle.outcomes.specs.Outcome.{ignored, done}
 use Rattle.outcomes.specs.Refusal.{message_refusal, proposal_refusal}
 use Rattle.outcomes.specs.declared.message.Message.{Message}
 use Rattle.outcomes.specs.declared.message.Proposal.{Proposal}
 use Rattle.outcomes.specs.declared.output.Record.{Record}
 use Rattle.proposing.specs.Proposals.{stored_for, raised_by, proposed}
 use Rattle.proposing.specs.declared.proposals.Phase.{Phase}
-use Rattle.proposing.specs.declared.proposals.Phase.TheVariants.{PreAccept, Accept, CommitNotice}
+use Rattle.proposing.specs.declared.proposals.Phase.TheVariants.{PreAccept, CommitNotice}
 use Rattle.proposing.specs.declared.proposals.Values.{Values}
-use Rattle.handlers.specs.Replies.{heeds, accept_reply}
+use Rattle.handlers.specs.Replies.{heeds, on_mark, accept_reply}
 use Rattle.handlers.specs.Prepare.{exp_prepare}
 use Rattle.handlers.specs.Lead.{lead_slot}
-use Rattle.outcomes.proofs.OutcomeLaws.{when_not}
 use Rattle.outcomes.proofs.RefusalLaws.{Heard, Taken, Led, placed_row}
-use Rattle.proposing.proofs.TestLaws.{ballot_below}
-use Rattle.handlers.proofs.TestLaws.{not_greater}
-use Rattle.handlers.proofs.CaseLaws.{WhenIgnored, WhenDone, filled, slot_before, to_store, slot_after, slot_marked, proposed_cases, reply_cases, mark_cases, prepare_cases, lead_cases}
+use Rattle.handlers.proofs.CaseLaws.{WhenDone, filled, slot_before, to_store, slot_after, slot_marked, proposed_cases, reply_cases, mark_cases, prepare_cases, lead_cases}
 
 -- ---- PreAccept, Accept and CommitNotice
 
@@ -60,9 +52,7 @@ pub record Stored (phase : Phase) (t : Table) (p : Proposal) (u : Table) (record
   pub log : records ≡ log_of p.message.at (slot_after phase t p) ∷ []
 
 stored_batch : (phase : Phase) (s : Slot) (m : Message) (v : Values) (b : Batch) → (stored_for phase s m v b).batch ≡ b
-stored_batch PreAccept s m v b = refl
-stored_batch Accept s m v b = refl
-stored_batch CommitNotice s m v b = refl
+stored_batch phase s m v b = grind arith
 
 pub proposed_done : (phase : Phase) (t : Table) (p : Proposal) (u : Table) (records : List Record) → length t.slots ≡ 224 → proposed phase t p ≡ done u records → Stored phase t p u records
 proposed_done phase t p u records size e = rw e at says
@@ -100,14 +90,7 @@ source_untouched s = ap (λ (r : Slot). r.source) s.there
 -- a lead and its accept marks outlive every store
 pub marks_outlive : {phase : Phase} {t : Table} {p : Proposal} {u : Table} {records : List Record} → Stored phase t p u records
     → ((slot_of u p.message.at).led ≡ (slot_before t p.message).led) × ((slot_of u p.message.at).marks ≡ (slot_before t p.message).marks)
-marks_outlive {phase} {t} {p} s =
-    let k = kept phase (slot_before t p.message) p.message (to_store phase t p) p.batch in
-    (ap (λ (r : Slot). r.led) s.there ∙ k.0, ap (λ (r : Slot). r.marks) s.there ∙ k.1)
-  where
-    kept : (phase : Phase) (s : Slot) (m : Message) (v : Values) (b : Batch) → ((stored_for phase s m v b).led ≡ s.led) × ((stored_for phase s m v b).marks ≡ s.marks)
-    kept PreAccept s m v b = (refl, refl)
-    kept Accept s m v b = (refl, refl)
-    kept CommitNotice s m v b = (refl, refl)
+marks_outlive e = grind arith
 
 -- ---- what a PreAccept waits for
 
@@ -145,30 +128,20 @@ pre_accept_waits_for {t} {p} {u} lens s =
 pub null_slots_stay : (phase : Phase) (t : Table) (p : Proposal) → proposal_refusal t p ≡ 0 → p.message.ballot < (slot_before t p.message).ballot
     → proposed phase t p ≡ ignored (filled t p.message)
 unfolding proposed
-null_slots_stay phase t p e l = when_not (proposal_refusal t p) _ e ∙ ballot_below phase (filled t p.message) p l
+null_slots_stay phase t p e l = grind arith
 
 pub proposed_ignored : (phase : Phase) (t : Table) (p : Proposal) (u : Table) → proposed phase t p ≡ ignored u
     → (u ≡ filled t p.message) × (p.message.ballot < (slot_before t p.message).ballot)
-proposed_ignored phase t p u e = rw e at says
-  where
-    Says : Handled → Type 0
-    Says = WhenIgnored (λ u. (u ≡ filled t p.message) × (p.message.ballot < (slot_before t p.message).ballot))
-
-    says : Says (proposed phase t p)
-    says = proposed_cases Says phase t p (λ l. tt) (λ h b. (refl, b)) (λ h b s. tt) (λ h b s. tt)
+unfolding proposed
+proposed_ignored phase t p u e = grind arith
 
 pub prepare_null_slots_stay : (t : Table) (m : Message) → message_refusal t m ≡ 0 → m.ballot ≤ (slot_before t m).ballot → exp_prepare t m ≡ ignored (filled t m)
 unfolding exp_prepare
-prepare_null_slots_stay t m e l = when_not (message_refusal t m) _ e ∙ not_greater (filled t m) m l
+prepare_null_slots_stay t m e l = grind arith
 
 pub prepare_ignored : (t : Table) (m : Message) (u : Table) → exp_prepare t m ≡ ignored u → (u ≡ filled t m) × (m.ballot ≤ (slot_before t m).ballot)
-prepare_ignored t m u e = rw e at says
-  where
-    Says : Handled → Type 0
-    Says = WhenIgnored (λ u. (u ≡ filled t m) × (m.ballot ≤ (slot_before t m).ballot))
-
-    says : Says (exp_prepare t m)
-    says = prepare_cases Says t m (λ l. tt) (λ h b. (refl, b)) (λ h b. tt)
+unfolding exp_prepare
+prepare_ignored t m u e = grind arith
 
 -- ---- a table that differs from another at most in the slot at a place
 
@@ -180,7 +153,7 @@ pub record OnlyAt (t : Table) (at : Place) (u : Table) : Type 0 where
   pub config : u.config ≡ t.config
 
 put_only : (t : Table) (at : Place) (s : Slot) → OnlyAt t at (put_at t at s)
-put_only t at s = record { elsewhere = put_elsewhere t at s; lens = refl; bars = refl; keys = refl; config = refl }
+put_only t at s = grind (arith, put_elsewhere)
 
 -- ---- AcceptReply
 
@@ -191,24 +164,13 @@ pub record Heeded (s : Slot) (m : Message) : Type 0 where
   pub led : s.led ≡ true
   pub not_marked : marked s.marks m.peer ≡ false
 
-is_accepting : (s : Status) → eqb (rank_of s) (rank_of Accepting) ≡ true → s ≡ Accepting
-is_accepting Null e = absurd (true≢false (sym e))
-is_accepting PreAccepting e = absurd (true≢false (sym e))
-is_accepting Accepting e = refl
-is_accepting Committed e = absurd (true≢false (sym e))
-is_accepting Executed e = absurd (true≢false (sym e))
-
 pub heeds_each : (s : Slot) (m : Message) → heeds s m ≡ true → Heeded s m
 unfolding heeds
-heeds_each s m h =
-    let a = both_true _ _ h in
-    let b = both_true _ _ a.1 in
-    let d = both_true _ _ b.1 in
-    record { accepting = is_accepting s.status a.0; same_ballot = eqb-true _ _ b.0; led = d.0; not_marked = not-true _ d.1 }
+heeds_each s m h = grind arith
 
 pub each_heeds : (s : Slot) (m : Message) → Heeded s m → heeds s m ≡ true
 unfolding heeds
-each_heeds s m h = rw (h.accepting, eq-eqb _ _ h.same_ballot, h.led, h.not_marked)
+each_heeds s m h = grind arith
 
 -- the slot with the mark, and what is put out: Committed, the log record and the broadcast exactly with at least simple marks
 pub data Counted (t : Table) (at : Place) (s : Slot) : Slot → List Record → Type 0 where
@@ -245,16 +207,8 @@ reply_done t m u records size e = rw e at says
 
 -- ignored where the slot is absent or does not heed it, and then nothing is added
 pub reply_ignored : (t : Table) (m : Message) (u : Table) → accept_reply t m ≡ ignored u → (u ≡ t) × (holds t m.at ≡ true → Heeded (slot_of t m.at) m → ⊥)
-reply_ignored t m u e = rw e at says
-  where
-    Says : Handled → Type 0
-    Says = WhenIgnored (λ u. (u ≡ t) × (holds t m.at ≡ true → Heeded (slot_of t m.at) m → ⊥))
-
-    says : Says (accept_reply t m)
-    says =
-        reply_cases Says t m (λ l. tt)
-        (λ h x. (refl, λ held heeded. true≢false (sym (rw (held, each_heeds (slot_of t m.at) m heeded)) ∙ x)))
-        (λ h held heeded. mark_cases Says t m.at (slot_marked t m) (λ l. tt) (λ l. tt))
+unfolding accept_reply on_mark
+reply_ignored t m u e = grind (arith, each_heeds)
 
 -- ---- ExpPrepare
 
@@ -290,7 +244,7 @@ pub record Stays (s r : Slot) : Type 0 where
   pub marks : r.marks ≡ s.marks
 
 pub ballot_stays : {t : Table} {m : Message} {u : Table} {records : List Record} → Replied t m u records → Stays (slot_before t m) (slot_of u m.at)
-ballot_stays r = rw r.there (record { ballot = refl; status = refl; seq = refl; deps = refl; batch = refl; led = refl; marks = refl })
+ballot_stays r = grind arith
 
 pub source_is_peer : {t : Table} {m : Message} {u : Table} {records : List Record} → Replied t m u records → (slot_of u m.at).source ≡ suc m.peer
 source_is_peer r = ap (λ (s : Slot). s.source) r.there
@@ -318,7 +272,5 @@ lead_done t at u records size e = rw e at says
 
 -- a Lead is never ignored
 pub lead_not_ignored : (t : Table) (at : Place) (u : Table) → lead_slot t at ≡ ignored u → ⊥
-lead_not_ignored t at u e = rw e at says
-  where
-    says : WhenIgnored (λ u. ⊥) (lead_slot t at)
-    says = lead_cases (WhenIgnored (λ u. ⊥)) t at (λ l. tt) (λ h. tt)
+unfolding lead_slot
+lead_not_ignored t at u e = grind arith

@@ -1,6 +1,7 @@
 -- Every handler keeps a table within the bounds.
 use mathlib.Core.Path.{◌≡◌}
 use mathlib.Core.Bool.{true}
+use native.Mathlib.Omega.{arith}
 use lib.ListN.{length}
 use Rattle.base.specs.declared.status.Status.{Status}
 use Rattle.base.specs.declared.status.Status.TheVariants.{PreAccepting, Accepting, Committed}
@@ -16,7 +17,7 @@ use Rattle.table.specs.declared.table.Table.{Table}
 use Rattle.table.proofs.SlotReads.{nulls_config, nulls_keys, nulls_holds}
 use Rattle.bounds.proofs.BoundLaws.{table_fits_each, held_slot_fits, put_keeps, stored_keeps, nulls_keep}
 use Rattle.slots.proofs.SlotLaws.{stored_slot_fits, heard_fits, led_fits, marked_fits, committed_fits}
-use Rattle.outcomes.specs.Outcome.{Handled, refused, ignored, done, outcome_of}
+use Rattle.outcomes.specs.Outcome.{Handled, outcome_of}
 use Rattle.outcomes.specs.declared.message.Message.{Message}
 use Rattle.outcomes.specs.declared.message.Proposal.{Proposal}
 use Rattle.proposing.specs.Proposals.{raised_by, proposed}
@@ -34,15 +35,13 @@ Keeps = Each (λ k. Unit) (λ u. table_fits u ≡ true) (λ u records. table_fit
 
 -- so the one that a call gives back is, if the one before was
 pub kept_outcome : (t : Table) (h : Handled) → Keeps h → table_fits t ≡ true → table_fits (outcome_of t h).table ≡ true
-kept_outcome t (refused k) keeps f = f
-kept_outcome t (ignored u) keeps f = keeps
-kept_outcome t (done u records) keeps f = keeps
+kept_outcome t h e f = grind arith
 
 -- ---- the table with its null slots, and the slot there
 
 module _ (t : Table) (m : Message) (lens : length t.lens ≡ 7) (heard : Heard t m) where
   filled_fits : table_fits (filled t m) ≡ true
-  filled_fits = nulls_keep t m.at heard.placed.within lens heard.placed.row heard.placed.col
+  filled_fits = grind (arith, nulls_keep)
 
   before_fits : slot_fits t.config.n (slot_before t m) ≡ true
   before_fits =
@@ -55,26 +54,17 @@ module _ (t : Table) (m : Message) (lens : length t.lens ≡ 7) (heard : Heard t
 
   -- a slot stored there, and the keys refreshed
   stored_in_keeps : (s : Slot) → slot_fits t.config.n s ≡ true → table_fits (stored_at (filled t m) m.at s) ≡ true
-  stored_in_keeps s f =
-      stored_keeps (filled t m) m.at filled_fits s
-      (rw (nulls_config t m.at) f)
-      (rw (nulls_config t m.at) heard.placed.row)
-      heard.placed.col
+  stored_in_keeps s f = grind (arith, stored_keeps, filled_fits, nulls_config)
 
 -- ---- what a proposal stores
 
 module _ (t : Table) (p : Proposal) (lens : length t.lens ≡ 7) (cols : length t.keys.cols ≡ 256) (taken : Taken t p) where
   values_fit : (phase : Phase) → set_fits t.config.n (to_store phase t p).deps ≡ true
   unfolding raised_by
-  values_fit PreAccept =
-      rw (nulls_keys t p.message.at)
-      (union_fits t.config.n p.deps _ taken.deps (identify_fits t.keys t.config.n p.batch cols (table_fits_each t taken.heard.placed.within).keys_fit))
-  values_fit Accept = taken.deps
-  values_fit CommitNotice = taken.deps
+  values_fit phase = grind (arith, nulls_keys, union_fits, identify_fits, table_fits_each)
 
   with_fits : (phase : Phase) (status : Status) → slot_fits t.config.n (stored_with (slot_before t p.message) p.message.ballot status (to_store phase t p).seq (to_store phase t p).deps p.batch) ≡ true
-  with_fits phase status =
-      stored_slot_fits t.config.n (slot_before t p.message) (before_fits t p.message lens taken.heard) p.message.ballot status _ _ p.batch (values_fit phase) taken.batch
+  with_fits phase status = grind (arith, stored_slot_fits, before_fits, values_fit)
 
   after_fits : (phase : Phase) → slot_fits t.config.n (slot_after phase t p) ≡ true
   after_fits PreAccept = heard_fits t.config.n _ (with_fits PreAccept PreAccepting) p.message.peer taken.heard.peer
