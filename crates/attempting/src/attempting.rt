@@ -7,7 +7,7 @@ ghost use Rattle.attempting.specs.Attempting.{ran_width, settled_ran, attempt_ca
 
 use attempts::attempt::{Attempted, attempt};
 use base::answer::Answer;
-use base::refusals;
+use base::refusals::Refusal;
 use calls::calls::{SHORT, is_refused};
 use image::tables;
 use image::tables::{is_known, put_table, table_at};
@@ -15,25 +15,23 @@ use layout::numbers::put_word;
 use table::place::Place;
 
 // order: the lent order list. ran: how many slots have run, a word.
+#[tactic(auto, unfolding(crate::specs::Attempting::attempt_call, crate::specs::Attempting::attempt_long))]
 pub fn attempt_on(image: &mut [u8], row: usize, col: usize, order: &mut [u8], ran: &mut [u8]) -> u64
     ensures result { result ≡ (attempt_call row col image.old order.old ran.old).code }
     ensures table { image.new ≡ (attempt_call row col image.old order.old ran.old).image }
     ensures list { order.new ≡ (attempt_call row col image.old order.old ran.old).order }
     ensures count { ran.new ≡ (attempt_call row col image.old order.old ran.old).ran }
 {
-    if image.len() != tables::WIDTH {
-        return SHORT;
-    }
-    if ran.len() < 8 {
+    if image.len() != tables::WIDTH || ran.len() < 8 {
         return SHORT;
     }
     if order.len() < 224 {
-        return refusals::SHORT_ORDER;
+        return Refusal::ShortOrder.number();
     }
     if !is_known(image) {
-        return refusals::OUTSIDE_BOUNDS;
+        return Refusal::OutsideBounds.number();
     }
-    let at = Place { row: row, col: col };
+    let at = Place { row, col };
     let tried = attempt(table_at(image), at, order);
     settle(tried, image, ran)
 }
@@ -46,15 +44,11 @@ fn settle(tried: Attempted, image: &mut [u8], ran: &mut [u8]) -> u64
     ensures table { image.new ≡ image_with tried.answer tried.table image.old }
     ensures count { ran.new ≡ settled_ran tried.answer tried.ran ran.old }
 {
-    let answer = tried.answer;
-    let number = answer.number();
-    put_ran(answer, tried.ran, ran);
-    if is_refused(answer) {
-        return number;
+    put_ran(tried.answer, tried.ran, ran);
+    if !is_refused(tried.answer) {
+        put_table(image, tried.table);
     }
-    let table = tried.table;
-    put_table(image, table);
-    number
+    tried.answer.number()
 }
 
 // How many slots have run, a word: a refusal writes nothing.
@@ -62,8 +56,7 @@ pub fn put_ran(answer: Answer, many: usize, ran: &mut [u8])
     requires { ran_width ≤ length ran.old }
     ensures { ran.new ≡ settled_ran answer many ran.old }
 {
-    if is_refused(answer) {
-        return;
+    if !is_refused(answer) {
+        put_word(ran, 0, many as u64);
     }
-    put_word(ran, 0, many as u64);
 }

@@ -2,43 +2,13 @@
 -- table that the image is.
 use mathlib.Core.Path.{ap, ◌∙◌}
 use lib.ListN.{length}
-use borrow.Author.Tests.{le-leb, lt-leb, eq-eqb, ne_eqb}
-use Rattle.base.proofs.Tests.{passed, failed}
+use borrow.Author.Tests.{le-leb, eq-eqb}
+use Rattle.base.proofs.Tests.{passed}
 use Rattle.table.specs.Place.{place_of}
 use Rattle.table.specs.declared.table.Table.{Table}
 use Rattle.attempts.specs.Attempt.{attempt_of, attempt_order}
 use Rattle.attempting.specs.Attempting.{attempt_long, attempt_call}
 use Rattle.attempting.proofs.attempting.attempt_on.Goals as goal
-
-pub returns-then-image-ne-WIDTH : goal.returns-then-image-ne-WIDTH
-unfolding attempt_call attempt_long
-returns-then-image-ne-WIDTH c =
-    let h = ne_eqb _ _ c.if-image-ne-WIDTH.true in
-    record { result = rw h; table = rw h; list = rw h; count = rw h }
-
-pub returns-then-ran-lt8 : goal.returns-then-ran-lt8
-unfolding attempt_call attempt_long
-returns-then-ran-lt8 c =
-    let g = eq-eqb _ _ c.if-image-ne-WIDTH.false in
-    let h = lt-leb _ _ c.if-ran-lt8.true in
-    record { result = rw (g, h); table = rw (g, h); list = rw (g, h); count = rw (g, h) }
-
-pub returns-then-order-lt224 : goal.returns-then-order-lt224
-unfolding attempt_call attempt_long
-returns-then-order-lt224 c =
-    let f = eq-eqb _ _ c.if-image-ne-WIDTH.false in
-    let g = le-leb _ _ c.if-ran-lt8.false in
-    let h = lt-leb _ _ c.if-order-lt224.true in
-    record { result = rw (f, g, h); table = rw (f, g, h); list = rw (f, g, h); count = rw (f, g, h) }
-
-pub returns-then-not-is_known : goal.returns-then-not-is_known
-unfolding attempt_call attempt_long
-returns-then-not-is_known c =
-    let f = eq-eqb _ _ c.if-image-ne-WIDTH.false in
-    let g = le-leb _ _ c.if-ran-lt8.false in
-    let h = le-leb _ _ c.if-order-lt224.false in
-    let i = failed c.is_known.ensures c.if-not-is_known.true in
-    record { result = rw (f, g, h, i); table = rw (f, g, h, i); list = rw (f, g, h, i); count = rw (f, g, h, i) }
 
 pub returns : goal.returns
 unfolding attempt_call attempt_long
