@@ -11,6 +11,7 @@ use Rattle.output_bytes.specs.Output.{output_width}
 use Rattle.base.specs.LogStatus.{is_status, status_of}
 use Rattle.logged.specs.Logged.{reply_status, logged_or, logged_of, logged_order}
 use Rattle.logged.specs.declared.logged.LogOutcome.{LogOutcome}
+use Rattle.logged.specs.declared.replies.Reply.{Reply}
 use Rattle.calls.specs.Calls.{short, enough, image_long, settled}
 use Rattle.attempting.specs.Attempting.{ran_width, settled_ran}
 
@@ -45,8 +46,8 @@ abbrev pub on_table : ℕ → ℕ → ℕ → List ℕ → List ℕ → List ℕ
 on_table row col status image order ran out = event_on (place_of row col) (status_of status) image order ran out
 
 -- one where only replies go out, with an order list that is long enough
-abbrev pub reply_on : Bool → Table → Place → LogOutcome
-reply_on accepting t at = logged_or (lead_refusal t at) (reply_status accepting) t at
+abbrev pub reply_on : Reply → Table → Place → LogOutcome
+reply_on reply t at = logged_or (lead_refusal t at) (reply_status reply) t at
 
 unfoldable pub log_long : List ℕ → List ℕ → List ℕ → Bool
 log_long image ran out = image_long image && (enough ran_width ran && enough output_width out)

@@ -1,14 +1,18 @@
 -- `logging::logging::logged_on` meets its contract: lengths first, then the log status, then refusal 8, then bytes that stand for nothing, then the event,
 -- in place or on the table.
-use mathlib.Core.Path.{◌≡◌, refl, sym, ◌∙◌}
+use mathlib.Core.Path.{◌≡◌, refl, ap, sym, ◌∙◌}
 use mathlib.Core.List.{List}
 use mathlib.Core.Bool.{Bool, true, false}
 use Prim.Native.Nat.{ℕ, ◌≤◌}
-use borrow.Author.Tests.{le-leb, lt-leb}
+use borrow.Author.Tests.{le-leb}
 use lib.ListN.{length}
-use Rattle.base.proofs.Tests.{passed, failed}
-use Rattle.base.specs.LogStatus.{is_status, status_of}
+use Rattle.base.proofs.Tests.{passed}
+use Rattle.std.proofs.Common.{Result, Ok, Err, cond}
+use Rattle.base.specs.LogStatus.{is_status, status_of, status_from}
+use Rattle.base.specs.declared.refusals.Refusal.{Refusal}
+use Rattle.base.specs.declared.refusals.Refusal.TheVariants.{Unreadable}
 use Rattle.base.specs.declared.log_status.LogStatus.{LogStatus}
+use Rattle.logged.specs.declared.replies.Reply.TheVariants.{PreAccept, Accept}
 use Rattle.table.specs.Place.{place_of}
 use Rattle.image.specs.Tables.{table_at, image_known}
 use Rattle.logging.specs.Logging.{event_on, log_call, log_long}
@@ -16,45 +20,25 @@ use Rattle.logging.proofs.LoggingLaws.{long_each}
 use Rattle.logging.proofs.ReplyOnLaws.{reply_called}
 use Rattle.logging.proofs.logging.logged_on.Goals as goal
 
+-- a number that stands for a log status
+stands : (number : ℕ) (s : LogStatus) → Ok s ≡ status_from number → (is_status number ≡ true) × (s ≡ status_of number)
+stands number s e = go (is_status number) refl e
+  where
+    go : (b : Bool) → is_status number ≡ b → ◌≡◌ {A = Result LogStatus Refusal} (Ok s) (cond b (Ok (status_of number)) (Err Unreadable)) → (is_status number ≡ true) × (s ≡ status_of number)
+    go true f g = (f, cc)
+    go false f g = absurd (cc)
+
 -- the event by what was logged, where nothing is tested any more
-by_status : (row col status : ℕ) (image order ran out : List ℕ) {s : LogStatus} {long stands known : Bool}
-    → long ≡ log_long image ran out → long ≡ true → stands ≡ is_status status → stands ≡ true → 224 ≤ length order → known ≡ image_known image → known ≡ true → s ≡ status_of status
+by_status : (row col status : ℕ) (image order ran out : List ℕ) {s : LogStatus} {long known : Bool}
+    → long ≡ log_long image ran out → long ≡ true → Ok s ≡ status_from status → 224 ≤ length order → known ≡ image_known image → known ≡ true
     → log_call row col status image order ran out ≡ event_on (place_of row col) s image order ran out
 unfolding log_call
-by_status row col status image order ran out e f g h l i j k = rw (passed e f, passed g h, le-leb _ _ l, passed i j, k) refl
-
-pub returns-then-not-is_long : goal.returns-then-not-is_long
-unfolding log_call
-returns-then-not-is_long c =
-    let f = failed c.is_long.ensures c.if-not-is_long.true in
-    record { result = rw f; table = rw f; list = rw f; count = rw f; bytes = rw f }
-
-pub returns-then-not-is_status : goal.returns-then-not-is_status
-unfolding log_call
-returns-then-not-is_status c =
-    let f = passed c.is_long.ensures c.if-not-is_long.false in
-    let g = failed c.is_status.ensures c.if-not-is_status.true in
-    record { result = rw (f, g); table = rw (f, g); list = rw (f, g); count = rw (f, g); bytes = rw (f, g) }
-
-pub returns-then-order-lt224 : goal.returns-then-order-lt224
-unfolding log_call
-returns-then-order-lt224 c =
-    let f = passed c.is_long.ensures c.if-not-is_long.false in
-    let g = passed c.is_status.ensures c.if-not-is_status.false in
-    let h = lt-leb _ _ c.if-order-lt224.true in
-    record { result = rw (f, g, h); table = rw (f, g, h); list = rw (f, g, h); count = rw (f, g, h); bytes = rw (f, g, h) }
+by_status row col status image order ran out e f g l i j =
+    let h = stands status _ g in
+    rw (passed e f, h.0, le-leb _ _ l, passed i j, h.1) refl
 
 pub is_known-requires : goal.is_known-requires
 is_known-requires c = (long_each _ _ _ (passed c.is_long.ensures c.if-not-is_long.false)).image_long
-
-pub returns-then-not-is_known : goal.returns-then-not-is_known
-unfolding log_call
-returns-then-not-is_known c =
-    let f = passed c.is_long.ensures c.if-not-is_long.false in
-    let g = passed c.is_status.ensures c.if-not-is_status.false in
-    let h = le-leb _ _ c.if-order-lt224.false in
-    let i = failed c.is_known.ensures c.if-not-is_known.true in
-    record { result = rw (f, g, h, i); table = rw (f, g, h, i); list = rw (f, g, h, i); count = rw (f, g, h, i); bytes = rw (f, g, h, i) }
 
 pub replied_on-requires : goal.replied_on-requires
 replied_on-requires c =
@@ -75,9 +59,9 @@ pub returns-in-PreAccepting : goal.returns-in-PreAccepting
 returns-in-PreAccepting c =
     let a = c.args in
     let h =
-    by_status a.row a.col a.status a.image.now a.order.now a.ran.now a.out.now c.is_long.ensures c.if-not-is_long.false c.is_status.ensures c.if-not-is_status.false c.if-order-lt224.false c.is_known.ensures
-    c.if-not-is_known.false (sym c.in-PreAccepting.is ∙ c.of-event.ensures)
-    ∙ reply_called false (table_at a.image.now) (place_of a.row a.col) a.image.now a.order.now a.ran.now a.out.now refl c.if-order-lt224.false
+    by_status a.row a.col a.status a.image.now a.order.now a.ran.now a.out.now c.is_long.ensures c.if-not-is_long.false (ap Ok (sym c.in-PreAccepting.is) ∙ c.in-Ok.ensures)
+    c.if-order-lt224.false c.is_known.ensures c.if-not-is_known.false
+    ∙ reply_called PreAccept (table_at a.image.now) (place_of a.row a.col) a.image.now a.order.now a.ran.now a.out.now refl c.if-order-lt224.false
     in
     let w = c.replied_on.ensures in
     record { result = rw h w.result; table = rw h w.table; list = rw h refl; count = rw h w.count; bytes = rw h w.bytes }
@@ -86,9 +70,9 @@ pub returns-in-Accepting : goal.returns-in-Accepting
 returns-in-Accepting c =
     let a = c.args in
     let h =
-    by_status a.row a.col a.status a.image.now a.order.now a.ran.now a.out.now c.is_long.ensures c.if-not-is_long.false c.is_status.ensures c.if-not-is_status.false c.if-order-lt224.false c.is_known.ensures
-    c.if-not-is_known.false (sym c.in-Accepting.is ∙ c.of-event.ensures)
-    ∙ reply_called true (table_at a.image.now) (place_of a.row a.col) a.image.now a.order.now a.ran.now a.out.now refl c.if-order-lt224.false
+    by_status a.row a.col a.status a.image.now a.order.now a.ran.now a.out.now c.is_long.ensures c.if-not-is_long.false (ap Ok (sym c.in-Accepting.is) ∙ c.in-Ok.ensures)
+    c.if-order-lt224.false c.is_known.ensures c.if-not-is_known.false
+    ∙ reply_called Accept (table_at a.image.now) (place_of a.row a.col) a.image.now a.order.now a.ran.now a.out.now refl c.if-order-lt224.false
     in
     let w = c.replied_on-in-Accepting.ensures in
     record { result = rw h w.result; table = rw h w.table; list = rw h refl; count = rw h w.count; bytes = rw h w.bytes }
@@ -97,8 +81,8 @@ pub returns-in-Committed : goal.returns-in-Committed
 returns-in-Committed c =
     let a = c.args in
     let h =
-    by_status a.row a.col a.status a.image.now a.order.now a.ran.now a.out.now c.is_long.ensures c.if-not-is_long.false c.is_status.ensures c.if-not-is_status.false c.if-order-lt224.false c.is_known.ensures
-    c.if-not-is_known.false (sym c.in-Committed.is ∙ c.of-event.ensures)
+    by_status a.row a.col a.status a.image.now a.order.now a.ran.now a.out.now c.is_long.ensures c.if-not-is_long.false (ap Ok (sym c.in-Committed.is) ∙ c.in-Ok.ensures)
+    c.if-order-lt224.false c.is_known.ensures c.if-not-is_known.false
     in
     let w = c.committed_on.ensures in
     record { result = rw h w.result; table = rw h w.table; list = rw h w.list; count = rw h w.count; bytes = rw h w.bytes }
