@@ -9,20 +9,19 @@ use table::place::Place;
 use table::table::Table;
 
 // The one test, for every entry.
+#[tactic(auto, unfolding(crate::specs::Bounds::table_fits))]
 pub fn fits<S: Shown>(shown: &S) -> bool
     ensures { result ≡ table_fits (S.table shown.now) }
 {
     let config = shown.config();
-    if !config.fits() {
-        return false;
-    }
-    if !rows_fit(config.n, shown.lens(), shown.bars()) {
-        return false;
-    }
-    slots_fit(shown) && shown.keys().fits(config.n)
+    config.fits()
+        && rows_fit(config.n, shown.lens(), shown.bars())
+        && slots_fit(shown)
+        && shown.keys().fits(config.n)
 }
 
 // The first refusal of a place: of the table, of the row, of the column.
+#[tactic(auto, unfolding(crate::specs::Bounds::place_refusal))]
 pub fn refusal(table: Table, at: Place) -> Result<(), Refusal>
     ensures { refused_number result ≡ place_refusal table at }
 {
@@ -30,6 +29,7 @@ pub fn refusal(table: Table, at: Place) -> Result<(), Refusal>
 }
 
 // The same, of what is known of a table: whether it is within the bounds, and how many rows it has.
+#[tactic(auto, unfolding(base::specs::Refusals::first_refusal))]
 pub fn of_place(within: bool, n: usize, at: Place) -> Result<(), Refusal>
     ensures { refused_number result ≡ first_refusal (place_tests_in within n at) }
 {
@@ -67,6 +67,7 @@ pub fn rows_fit(n: usize, lens: [usize; 7], bars: [usize; 7]) -> bool
 }
 
 // At most 32 slots, and none in a row n or more; the bar not past them.
+#[tactic(auto, unfolding(crate::specs::Bounds::row_fits))]
 fn row_fits(n: usize, row: usize, len: usize, bar: usize) -> bool
     ensures { result ≡ row_fits n row len bar }
 {

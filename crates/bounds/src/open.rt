@@ -15,6 +15,7 @@ pub struct Opened {
 }
 
 // An empty table of this population, own number, simple and super quorum.
+#[tactic(auto, unfolding(crate::specs::Open::open_of))]
 pub fn open(n: usize, own: usize, simple: usize, sup: usize) -> Opened
     ensures { result ≡ open_of n own simple sup }
 {

@@ -23,6 +23,7 @@ pub struct View {
 }
 
 // For a message that is to the place and has the batch.
+#[tactic(auto, unfolding(crate::specs::View::view_of))]
 pub fn look<S: Shown>(shown: &S, at: Place, batch: Batch) -> View
     ensures { result ≡ view_of (S.table shown.now) at batch }
 {
@@ -50,6 +51,7 @@ fn look_with<S: Shown>(shown: &S, at: Place, mine: DepSet, highest: u32) -> View
     }
 }
 
+#[tactic(auto, unfolding(crate::specs::View::slot_seen))]
 fn slot_seen<S: Shown>(shown: &S, at: Place) -> Slot
     ensures { result ≡ slot_seen (S.table shown.now) at }
 {

@@ -41,10 +41,12 @@ impl Shown for Image<'_> {
         keys_at(self.bytes, 18)
     }
 
+    #[tactic(auto, using(crate::proofs::ViewLaws::slot_no_at))]
     fn slot_no(&self, i: usize) -> Slot {
         slot_at(self.bytes, slot_start(i))
     }
 
+    #[tactic(auto, using(crate::proofs::ViewLaws::slot_no_at))]
     fn slot_fits(&self, i: usize, n: usize) -> bool {
         slot_fits(self.bytes, slot_start(i), n)
     }
