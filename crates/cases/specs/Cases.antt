@@ -7,7 +7,8 @@ use Rattle.base.specs.declared.config.Config.{Config}
 use Rattle.base.specs.declared.status.Status.{Status}
 use Rattle.base.specs.declared.status.Status.TheVariants.{Null, PreAccepting, Committed}
 use Rattle.deps.specs.declared.batches.Request.{Request}
-use Rattle.votes.specs.Answer.{Decided, wait, committed, accepting, pre_accepting, refused}
+use Rattle.votes.specs.declared.answer.Decision.{Decision}
+use Rattle.votes.specs.declared.answer.Decision.TheVariants as decision
 use Rattle.decisions.specs.Fast.{fast_answer}
 use Rattle.recovering.specs.Recovery.{choice_answer}
 use Rattle.votes.specs.declared.contents.Contents.{Contents}
@@ -21,9 +22,9 @@ pub data Case : Type 0 where
   -- what a batch waits for after these slots
   identify : List Stored → List Request → List Dep → Case
   -- the fast decision on these replies, with these replicas silent
-  fast : Config → List Says → List Bool → Decided → Case
+  fast : Config → List Says → List Bool → Decision → Case
   -- the choice by a rule, at N 3, simple 2, super 3, on row 0 at its default ballot, with these acks and votes
-  recover : Rule → List Bool → List Says → Decided → Case
+  recover : Rule → List Bool → List Says → Decision → Case
   -- a PreAccept 0.0, ballot 5, sequence 1, empty, put, sent again so many times: sequence and dependencies
   pre_accepts : ℕ → ℕ → List Dep → Case
 
@@ -77,22 +78,22 @@ cases =
     ∷ identify past (put 5 ∷ get 7 ∷ []) (column 2 ∷ column 3 ∷ [])
     ∷ identify past (get 6 ∷ []) []
     ∷ identify past (other ∷ []) []
-    ∷ fast (config 3 2 3) (reply 4 [] ∷ reply 4 [] ∷ []) [] wait
-    ∷ fast (config 3 2 3) (reply 4 [] ∷ reply 4 [] ∷ []) (false ∷ false ∷ true ∷ []) (accepting (contents 4 [] []))
-    ∷ fast (config 3 2 3) (reply 4 [] ∷ reply 4 [] ∷ reply 4 [] ∷ []) [] (committed (contents 4 [] []))
-    ∷ fast (config 3 2 3) (x ∷ y ∷ []) [] (accepting (contents 5 (column 1 ∷ column 2 ∷ []) []))
-    ∷ fast (config 4 2 2) (x ∷ y ∷ y ∷ x ∷ []) [] (committed (contents 4 (column 1 ∷ []) []))
-    ∷ fast (config 3 2 4) (x ∷ y ∷ []) [] (refused 1)
-    ∷ fast (config 3 2 3) (x ∷ y ∷ nothing_said ∷ y ∷ []) [] (refused 2)
-    ∷ fast (config 3 2 3) (reply 4 (column 32 ∷ []) ∷ y ∷ []) [] (refused 4)
-    ∷ fast (config 3 2 3) (reply 4294967296 [] ∷ y ∷ []) [] (refused 6)
-    ∷ recover Rust acks12 (nothing_said ∷ vote_for PreAccepting ∷ vote_for PreAccepting ∷ []) (accepting edit)
-    ∷ recover Paper acks12 (nothing_said ∷ vote_for PreAccepting ∷ vote_for PreAccepting ∷ []) (accepting edit)
-    ∷ recover Rust acks12 (nothing_said ∷ vote_for PreAccepting ∷ null ∷ []) (pre_accepting edit)
-    ∷ recover Paper acks12 (nothing_said ∷ vote_for PreAccepting ∷ null ∷ []) (accepting edit)
-    ∷ recover Rust acks12 (nothing_said ∷ vote_for Committed ∷ vote Committed 6 [] (put 5 ∷ []) ∷ []) (committed (contents 6 [] (put 5 ∷ [])))
-    ∷ recover Paper acks12 (nothing_said ∷ vote_for Committed ∷ vote Committed 6 [] (put 5 ∷ []) ∷ []) (committed (contents 6 [] (put 5 ∷ [])))
-    ∷ recover Rust acks12 (nothing_said ∷ vote PreAccepting 4 [] (put 256 ∷ []) ∷ null ∷ []) (refused 5)
+    ∷ fast (config 3 2 3) (reply 4 [] ∷ reply 4 [] ∷ []) [] decision.Wait
+    ∷ fast (config 3 2 3) (reply 4 [] ∷ reply 4 [] ∷ []) (false ∷ false ∷ true ∷ []) (decision.Accepting (contents 4 [] []))
+    ∷ fast (config 3 2 3) (reply 4 [] ∷ reply 4 [] ∷ reply 4 [] ∷ []) [] (decision.Committed (contents 4 [] []))
+    ∷ fast (config 3 2 3) (x ∷ y ∷ []) [] (decision.Accepting (contents 5 (column 1 ∷ column 2 ∷ []) []))
+    ∷ fast (config 4 2 2) (x ∷ y ∷ y ∷ x ∷ []) [] (decision.Committed (contents 4 (column 1 ∷ []) []))
+    ∷ fast (config 3 2 4) (x ∷ y ∷ []) [] (decision.Refused 1)
+    ∷ fast (config 3 2 3) (x ∷ y ∷ nothing_said ∷ y ∷ []) [] (decision.Refused 2)
+    ∷ fast (config 3 2 3) (reply 4 (column 32 ∷ []) ∷ y ∷ []) [] (decision.Refused 4)
+    ∷ fast (config 3 2 3) (reply 4294967296 [] ∷ y ∷ []) [] (decision.Refused 6)
+    ∷ recover Rust acks12 (nothing_said ∷ vote_for PreAccepting ∷ vote_for PreAccepting ∷ []) (decision.Accepting edit)
+    ∷ recover Paper acks12 (nothing_said ∷ vote_for PreAccepting ∷ vote_for PreAccepting ∷ []) (decision.Accepting edit)
+    ∷ recover Rust acks12 (nothing_said ∷ vote_for PreAccepting ∷ null ∷ []) (decision.PreAccepting edit)
+    ∷ recover Paper acks12 (nothing_said ∷ vote_for PreAccepting ∷ null ∷ []) (decision.Accepting edit)
+    ∷ recover Rust acks12 (nothing_said ∷ vote_for Committed ∷ vote Committed 6 [] (put 5 ∷ []) ∷ []) (decision.Committed (contents 6 [] (put 5 ∷ [])))
+    ∷ recover Paper acks12 (nothing_said ∷ vote_for Committed ∷ vote Committed 6 [] (put 5 ∷ []) ∷ []) (decision.Committed (contents 6 [] (put 5 ∷ [])))
+    ∷ recover Rust acks12 (nothing_said ∷ vote PreAccepting 4 [] (put 256 ∷ []) ∷ null ∷ []) (decision.Refused 5)
     ∷ pre_accepts 0 1 []
     ∷ pre_accepts 1 2 (column 0 ∷ [])
     ∷ []

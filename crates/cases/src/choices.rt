@@ -1,21 +1,21 @@
 // Cases of the decisions: N 3, own 0, simple 2, super 3 unless said.
-use super::{sets, text};
+use super::sets;
+use super::text::Decided;
 use base::config::Config;
 use base::status::Status;
 use decisions::fast;
 use deps::batches::Batch;
 use recovering::recovery;
-use recovering::recovery::Prepare;
+use recovering::recovery::{Prepare, Rule, Votes};
 use std::io;
+use votes::contents;
 
-fn three() -> Config {
-    Config {
-        n: 3,
-        own: 0,
-        simple: 2,
-        sup: 3,
-    }
-}
+const THREE: Config = Config {
+    n: 3,
+    own: 0,
+    simple: 2,
+    sup: 3,
+};
 
 // The first three or four replicas; the rest are nobody.
 fn marks(a: bool, b: bool, c: bool, d: bool) -> [bool; 7] {
@@ -31,213 +31,168 @@ fn rows(a: u8, b: u8, c: u8) -> [u8; 7] {
     [a, b, c, 0, 0, 0, 0]
 }
 
+const NONE: [u8; 7] = [0; 7];
+
 fn columns(a: [u8; 7], b: [u8; 7], c: [u8; 7], d: [u8; 7]) -> [[u8; 7]; 7] {
-    let none = rows(0, 0, 0);
-    [a, b, c, d, none, none, none]
+    [a, b, c, d, NONE, NONE, NONE]
 }
 
-pub(crate) fn fast_decisions(rt: &impl Print) -> io::Result<()> {
-    let none = rows(0, 0, 0);
-    let empty = columns(none, none, none, none);
-    let two = marks(true, true, false, false);
-    let all = marks(true, true, true, false);
-    let silent = marks(false, false, false, false);
-    let fours = numbers(4, 4, 4, 0);
-    fast(
-        rt,
-        b"0, 1 say (4,[_,_,_])",
-        three(),
-        false,
-        two,
-        fours,
-        empty,
-        silent,
-    )?;
-    fast(
-        rt,
-        b"0, 1 say (4,[_,_,_]), 2 silent",
-        three(),
-        false,
-        two,
-        fours,
-        empty,
-        marks(false, false, true, false),
-    )?;
-    fast(
-        rt,
-        b"0, 1, 2 say (4,[_,_,_])",
-        three(),
-        false,
-        all,
-        fours,
-        empty,
-        silent,
-    )?;
-    let crossed = columns(rows(2, 0, 0), rows(0, 3, 0), none, none);
-    fast(
-        rt,
-        b"0 says (4,[1,_,_]), 1 says (5,[_,2,_])",
-        three(),
-        false,
-        two,
-        numbers(4, 5, 0, 0),
-        crossed,
-        silent,
-    )?;
-    let four = Config {
-        n: 4,
-        own: 0,
-        simple: 2,
-        sup: 2,
-    };
-    let x = rows(2, 0, 0);
-    let y = rows(0, 3, 0);
-    let pairs = columns(x, y, y, x);
-    fast(
-        rt,
-        b"N 4, super 2: 0, 3 say (4,[1,_,_]), 1, 2 say (5,[_,2,_])",
-        four,
-        false,
-        marks(true, true, true, true),
-        numbers(4, 5, 5, 4),
-        pairs,
-        silent,
-    )?;
-    fast(
-        rt,
-        b"0, 1, 2 say (4,[_,_,_]), fast path avoided",
-        three(),
-        true,
-        all,
-        fours,
-        empty,
-        silent,
-    )?;
-    fast(
-        rt,
-        b"0 says (4,[_,_,_])",
-        three(),
-        false,
-        marks(true, false, false, false),
-        fours,
-        empty,
-        silent,
-    )
-}
-
-// Each is refused for the first reason in the order of the numbers.
-pub(crate) fn refusals(rt: &impl Print) -> io::Result<()> {
-    let none = rows(0, 0, 0);
-    let far = rows(33, 0, 0);
-    let empty = columns(none, none, none, none);
-    let long = columns(far, none, none, none);
-    let two = marks(true, true, false, false);
-    let four = marks(true, true, false, true);
-    let silent = marks(false, false, false, false);
-    let over = numbers(4294967296, 0, 0, 0);
-    let no_quorum = Config {
-        n: 3,
-        own: 0,
-        simple: 2,
-        sup: 4,
-    };
-    fast(
-        rt,
-        b"super 4 of 3, a reply of 3, column 32, sequence 2^32",
-        no_quorum,
-        false,
-        four,
-        over,
-        long,
-        silent,
-    )?;
-    fast(
-        rt,
-        b"a reply of 3, column 32, sequence 2^32",
-        three(),
-        false,
-        four,
-        over,
-        long,
-        silent,
-    )?;
-    fast(
-        rt,
-        b"column 32, sequence 2^32",
-        three(),
-        false,
-        two,
-        over,
-        long,
-        silent,
-    )?;
-    fast(
-        rt,
-        b"sequence 2^32",
-        three(),
-        false,
-        two,
-        over,
-        empty,
-        silent,
-    )?;
-    fast(
-        rt,
-        b"sequence 2^32 of a replica that has not replied",
-        three(),
-        false,
-        marks(false, true, true, false),
-        over,
-        empty,
-        silent,
-    )
-}
-
-fn fast(
-    rt: &impl Print,
-    what: &[u8],
+// What the fast decision is asked with.
+#[derive(Clone, Copy)]
+struct Fast<'a> {
+    what: &'a str,
     config: Config,
     avoided: bool,
     replied: [bool; 7],
     seqs: [u64; 7],
     deps: [[u8; 7]; 7],
     silent: [bool; 7],
-) -> io::Result<()> {
-    text::word(rt, what)?;
-    text::word(rt, b": ")?;
-    text::decision(
-        rt,
-        fast::decision(config, avoided, replied, seqs, deps, silent),
-    )?;
-    text::end_line(rt)
+}
+
+impl Fast<'_> {
+    fn show(&self, rt: &impl Print) -> io::Result<()> {
+        let decision = fast::decision(
+            self.config,
+            self.avoided,
+            self.replied,
+            self.seqs,
+            self.deps,
+            self.silent,
+        );
+        println!(rt; "{}: {}", self.what, Decided(decision))
+    }
+}
+
+pub(crate) fn fast_decisions(rt: &impl Print) -> io::Result<()> {
+    let two = Fast {
+        what: "0, 1 say (4,[_,_,_])",
+        config: THREE,
+        avoided: false,
+        replied: marks(true, true, false, false),
+        seqs: numbers(4, 4, 4, 0),
+        deps: [NONE; 7],
+        silent: [false; 7],
+    };
+    let all = marks(true, true, true, false);
+    let x = rows(2, 0, 0);
+    let y = rows(0, 3, 0);
+    let cases = [
+        two,
+        Fast {
+            what: "0, 1 say (4,[_,_,_]), 2 silent",
+            silent: marks(false, false, true, false),
+            ..two
+        },
+        Fast {
+            what: "0, 1, 2 say (4,[_,_,_])",
+            replied: all,
+            ..two
+        },
+        Fast {
+            what: "0 says (4,[1,_,_]), 1 says (5,[_,2,_])",
+            seqs: numbers(4, 5, 0, 0),
+            deps: columns(x, y, NONE, NONE),
+            ..two
+        },
+        Fast {
+            what: "N 4, super 2: 0, 3 say (4,[1,_,_]), 1, 2 say (5,[_,2,_])",
+            config: Config {
+                n: 4,
+                own: 0,
+                simple: 2,
+                sup: 2,
+            },
+            replied: marks(true, true, true, true),
+            seqs: numbers(4, 5, 5, 4),
+            deps: columns(x, y, y, x),
+            ..two
+        },
+        Fast {
+            what: "0, 1, 2 say (4,[_,_,_]), fast path avoided",
+            avoided: true,
+            replied: all,
+            ..two
+        },
+        Fast {
+            what: "0 says (4,[_,_,_])",
+            replied: marks(true, false, false, false),
+            ..two
+        },
+    ];
+    for case in &cases {
+        case.show(rt)?;
+    }
+    Ok(())
+}
+
+// Each is refused for the first reason in the order of the numbers.
+pub(crate) fn refusals(rt: &impl Print) -> io::Result<()> {
+    let four = Fast {
+        what: "a reply of 3, column 32, sequence 2^32",
+        config: THREE,
+        avoided: false,
+        replied: marks(true, true, false, true),
+        seqs: numbers(4294967296, 0, 0, 0),
+        deps: columns(rows(33, 0, 0), NONE, NONE, NONE),
+        silent: [false; 7],
+    };
+    let two = Fast {
+        what: "column 32, sequence 2^32",
+        replied: marks(true, true, false, false),
+        ..four
+    };
+    let cases = [
+        Fast {
+            what: "super 4 of 3, a reply of 3, column 32, sequence 2^32",
+            config: Config { sup: 4, ..THREE },
+            ..four
+        },
+        four,
+        two,
+        Fast {
+            what: "sequence 2^32",
+            deps: [NONE; 7],
+            ..two
+        },
+        Fast {
+            what: "sequence 2^32 of a replica that has not replied",
+            replied: marks(false, true, true, false),
+            deps: [NONE; 7],
+            ..four
+        },
+    ];
+    for case in &cases {
+        case.show(rt)?;
+    }
+    Ok(())
 }
 
 // Votes on row 0 by 1 and 2, who have acked, at the default ballot.
 pub(crate) fn recoveries(rt: &impl Print) -> io::Result<()> {
     recover(
         rt,
-        b"1, 2 PreAccepting (4,[1,_,_],put 5)",
+        "1, 2 PreAccepting (4,[1,_,_],put 5)",
         Status::PreAccepting,
         Status::PreAccepting,
         numbers(0, 4, 4, 0),
     )?;
     recover(
         rt,
-        b"1 PreAccepting (4,[1,_,_],put 5), 2 Null",
+        "1 PreAccepting (4,[1,_,_],put 5), 2 Null",
         Status::PreAccepting,
         Status::Null,
         numbers(0, 4, 0, 0),
     )?;
     recover(
         rt,
-        b"1 Committed (4,[1,_,_],put 5), 2 Committed (6,[1,_,_],put 5)",
+        "1 Committed (4,[1,_,_],put 5), 2 Committed (6,[1,_,_],put 5)",
         Status::Committed,
         Status::Committed,
         numbers(0, 4, 6, 0),
     )?;
     recover(
         rt,
-        b"1, 2 Null",
+        "1, 2 Null",
         Status::Null,
         Status::Null,
         numbers(0, 0, 0, 0),
@@ -246,7 +201,7 @@ pub(crate) fn recoveries(rt: &impl Print) -> io::Result<()> {
 
 fn recover(
     rt: &impl Print,
-    what: &[u8],
+    what: &str,
     one: Status,
     two: Status,
     seqs: [u64; 7],
@@ -257,27 +212,22 @@ fn recover(
         default: 7,
     };
     let acks = marks(false, true, true, false);
-    let statuses = [
-        Status::Null,
-        one,
-        two,
-        Status::Null,
-        Status::Null,
-        Status::Null,
-        Status::Null,
-    ];
-    let deps = columns(rows(2, 0, 0), rows(2, 0, 0), rows(2, 0, 0), rows(0, 0, 0));
+    let mut statuses = [Status::Null; 7];
+    statuses[1] = one;
+    statuses[2] = two;
+    let voted = rows(2, 0, 0);
+    let deps = columns(voted, voted, voted, NONE);
     let batches = [Batch::of(sets::put(5)); 7];
-    text::word(rt, what)?;
-    text::word(rt, b": the Rust's ")?;
-    text::decision(
-        rt,
-        recovery::rust_choice(three(), prepare, acks, acks, statuses, seqs, deps, batches),
-    )?;
-    text::word(rt, b", the paper's ")?;
-    text::decision(
-        rt,
-        recovery::paper_choice(three(), prepare, acks, acks, statuses, seqs, deps, batches),
-    )?;
-    text::end_line(rt)
+    let votes = Votes {
+        voted: acks,
+        statuses,
+        entries: contents::entries(seqs, deps, batches),
+    };
+    let rust = recovery::choice(Rule::Rust, THREE, prepare, acks, votes);
+    let paper = recovery::choice(Rule::Paper, THREE, prepare, acks, votes);
+    println!(rt;
+        "{what}: the Rust's {}, the paper's {}",
+        Decided(rust),
+        Decided(paper)
+    )
 }

@@ -1,4 +1,5 @@
 // Cases of the handlers, on tables begun empty: N 3, own 0, simple 2, super 3. Requests put key 5 unless said.
+use super::text::Answered;
 use super::{sets, text};
 use bounds::open;
 use deps::batches::Batch;
@@ -12,42 +13,34 @@ use table::place::Place;
 use table::table::Table;
 
 pub(crate) fn empty() -> Table {
-    let opened = open::open(3, 0, 2, 3);
-    opened.table
+    open::open(3, 0, 2, 3).table
 }
 
 pub(crate) fn from(peer: usize, row: usize, col: usize, ballot: u64) -> Message {
-    let at = Place { row: row, col: col };
     Message {
-        peer: peer,
-        at: at,
-        ballot: ballot,
+        peer,
+        at: Place { row, col },
+        ballot,
     }
 }
 
 // A put of the key that names no dependency.
 pub(crate) fn put(message: Message, seq: u64, key: u16) -> Proposal {
-    let batch = Batch::of(sets::put(key));
     Proposal {
-        message: message,
-        seq: seq,
+        message,
+        seq,
         deps: DepSet::EMPTY,
-        batch: batch,
+        batch: Batch::of(sets::put(key)),
     }
 }
 
 // What a call did to its slot, and the table after it.
-fn show(rt: &impl Print, what: &[u8], at: Place, outcome: Outcome) -> io::Result<Table> {
-    text::word(rt, what)?;
-    text::word(rt, b": ")?;
-    let answer = outcome.answer;
-    text::answer(rt, answer)?;
-    let table = outcome.table;
-    text::slot_at(rt, table, at)?;
-    let output = outcome.output;
-    text::output(rt, output)?;
-    text::end_line(rt)?;
-    Ok(table)
+fn show(rt: &impl Print, what: &str, at: Place, outcome: Outcome) -> io::Result<Table> {
+    print!(rt; "{what}: {}", Answered(outcome.answer))?;
+    text::slot_at(rt, outcome.table, at)?;
+    text::output(rt, outcome.output)?;
+    println!(rt; "")?;
+    Ok(outcome.table)
 }
 
 // Each case goes on with the table that the one before it leaves, so that one table is kept at a time.
@@ -58,13 +51,13 @@ pub(crate) fn pre_accepts(rt: &impl Print) -> io::Result<()> {
     let sent = put(head, 1, 5);
     table = show(
         rt,
-        b"PreAccept 0.0, ballot 5, sequence 1",
+        "PreAccept 0.0, ballot 5, sequence 1",
         at,
         proposals::pre_accept(table, sent),
     )?;
-    table = show(rt, b"sent again", at, proposals::pre_accept(table, sent))?;
+    table = show(rt, "sent again", at, proposals::pre_accept(table, sent))?;
     let late = put(from(1, 0, 0, 4), 1, 5);
-    show(rt, b"with ballot 4", at, proposals::pre_accept(table, late))?;
+    show(rt, "with ballot 4", at, proposals::pre_accept(table, late))?;
     Ok(())
 }
 
@@ -74,7 +67,7 @@ pub(crate) fn prepares(rt: &impl Print) -> io::Result<()> {
     let last = third.at;
     table = show(
         rt,
-        b"ExpPrepare 1.2, ballot 0",
+        "ExpPrepare 1.2, ballot 0",
         last,
         prepare::exp_prepare(table, third),
     )?;
@@ -82,7 +75,7 @@ pub(crate) fn prepares(rt: &impl Print) -> io::Result<()> {
     let middle = second.at;
     table = show(
         rt,
-        b"then ExpPrepare 1.1, ballot 0",
+        "then ExpPrepare 1.1, ballot 0",
         middle,
         prepare::exp_prepare(table, second),
     )?;
@@ -90,14 +83,14 @@ pub(crate) fn prepares(rt: &impl Print) -> io::Result<()> {
     let at = first.at;
     table = show(
         rt,
-        b"then ExpPrepare 1.0, ballot 9",
+        "then ExpPrepare 1.0, ballot 9",
         at,
         prepare::exp_prepare(table, first),
     )?;
     let low = put(from(1, 1, 0, 1), 1, 5);
     show(
         rt,
-        b"then Accept 1.0, ballot 1",
+        "then Accept 1.0, ballot 1",
         at,
         proposals::accept(table, low),
     )?;
@@ -111,13 +104,13 @@ pub(crate) fn edges(rt: &impl Print) -> io::Result<()> {
     let at = last.at;
     table = show(
         rt,
-        b"PreAccept 0.31, key 255",
+        "PreAccept 0.31, key 255",
         at,
         proposals::pre_accept(table, put(last, 1, 255)),
     )?;
     table = show(
         rt,
-        b"then key 256",
+        "then key 256",
         at,
         proposals::pre_accept(table, put(last, 1, 256)),
     )?;
@@ -125,7 +118,7 @@ pub(crate) fn edges(rt: &impl Print) -> io::Result<()> {
     let none = past.at;
     show(
         rt,
-        b"then PreAccept 0.32",
+        "then PreAccept 0.32",
         none,
         proposals::pre_accept(table, put(past, 1, 5)),
     )?;
@@ -137,36 +130,36 @@ pub(crate) fn marks(rt: &impl Print) -> io::Result<()> {
     let mut table = empty();
     let head = from(1, 0, 0, 5);
     let at = head.at;
-    table = show(rt, b"Lead 0.0, absent", at, lead::lead(table, at))?;
+    table = show(rt, "Lead 0.0, absent", at, lead::lead(table, at))?;
     table = show(
         rt,
-        b"Accept 0.0",
+        "Accept 0.0",
         at,
         proposals::accept(table, put(head, 1, 5)),
     )?;
     table = show(
         rt,
-        b"AcceptReply of 1, not led",
+        "AcceptReply of 1, not led",
         at,
         replies::accept_reply(table, head),
     )?;
-    table = show(rt, b"Lead 0.0", at, lead::lead(table, at))?;
+    table = show(rt, "Lead 0.0", at, lead::lead(table, at))?;
     table = show(
         rt,
-        b"AcceptReply of 1",
+        "AcceptReply of 1",
         at,
         replies::accept_reply(table, head),
     )?;
     table = show(
         rt,
-        b"AcceptReply of 1 again",
+        "AcceptReply of 1 again",
         at,
         replies::accept_reply(table, head),
     )?;
     let other = from(2, 0, 0, 5);
     show(
         rt,
-        b"AcceptReply of 2",
+        "AcceptReply of 2",
         at,
         replies::accept_reply(table, other),
     )?;
@@ -181,14 +174,14 @@ pub(crate) fn sequences(rt: &impl Print) -> io::Result<()> {
     let over = put(head, 4294967296, 5);
     table = show(
         rt,
-        b"CommitNotice 0.0, sequence 2^32",
+        "CommitNotice 0.0, sequence 2^32",
         at,
         proposals::commit_notice(table, over),
     )?;
     let most = put(head, 4294967295, 5);
     table = show(
         rt,
-        b"CommitNotice 0.0, sequence 2^32 - 1",
+        "CommitNotice 0.0, sequence 2^32 - 1",
         at,
         proposals::commit_notice(table, most),
     )?;
@@ -197,13 +190,13 @@ pub(crate) fn sequences(rt: &impl Print) -> io::Result<()> {
     let small = put(next, 1, 5);
     table = show(
         rt,
-        b"then PreAccept 0.1",
+        "then PreAccept 0.1",
         second,
         proposals::pre_accept(table, small),
     )?;
     show(
         rt,
-        b"then Accept 0.1",
+        "then Accept 0.1",
         second,
         proposals::accept(table, small),
     )?;
@@ -213,18 +206,9 @@ pub(crate) fn sequences(rt: &impl Print) -> io::Result<()> {
 // A table of a configuration that is refused is refused by every entry.
 pub(crate) fn opens(rt: &impl Print) -> io::Result<()> {
     let opened = open::open(3, 3, 2, 3);
-    let answer = opened.answer;
-    text::word(rt, b"own 3 of 3: ")?;
-    text::answer(rt, answer)?;
-    text::end_line(rt)?;
+    println!(rt; "own 3 of 3: {}", Answered(opened.answer))?;
     let head = from(9, 9, 99, 5);
-    let at = head.at;
-    let table = opened.table;
-    show(
-        rt,
-        b"then AcceptReply of 9 for 9.99",
-        at,
-        replies::accept_reply(table, head),
-    )?;
+    let outcome = replies::accept_reply(opened.table, head);
+    show(rt, "then AcceptReply of 9 for 9.99", head.at, outcome)?;
     Ok(())
 }

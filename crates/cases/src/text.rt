@@ -1,235 +1,192 @@
-// What the program prints: words, sets as [1,_,3], batches, decisions, slots, records, ends of lines.
+// How the program prints what a case answers: sets as [1,_,3], batches, decisions, slots, records.
 use base::answer::Answer;
-use base::status::Status;
 use deps::batches::{Batch, Kind};
 use deps::sets::DepSet;
 use outcomes::output::{Output, Record, What};
-use std::io;
+use std::{fmt, io};
 use table::place::Place;
 use table::table::Table;
-use votes::answer::{Decision, Step};
+use votes::answer::Decision;
 use votes::contents::Contents;
 
-pub(crate) fn word(rt: &impl Print, bytes: &[u8]) -> io::Result<()> {
-    rt.write_all(bytes)
-}
+// A column, or _ for nothing.
+#[derive(Clone, Copy)]
+struct Column(u8);
 
-pub(crate) fn end_line(rt: &impl Print) -> io::Result<()> {
-    word(rt, b"\n")
-}
-
-fn number(rt: &impl Print, value: u64) -> io::Result<()> {
-    rt.print(value)
+impl fmt::Display for Column {
+    fn fmt<W: fmt::Write>(&self, f: &mut fmt::Formatter<W>) -> fmt::Result {
+        match self.0 {
+            0 => f.write_str("_"),
+            number => write!(f, "{}", number - 1),
+        }
+    }
 }
 
 // The first three rows: no case of this program has more in a set.
-pub(crate) fn set(rt: &impl Print, d: DepSet) -> io::Result<()> {
-    word(rt, b"[")?;
-    dep(rt, d.cols[0])?;
-    word(rt, b",")?;
-    dep(rt, d.cols[1])?;
-    word(rt, b",")?;
-    dep(rt, d.cols[2])?;
-    word(rt, b"]")
-}
+#[derive(Clone, Copy)]
+pub(crate) struct Set(pub DepSet);
 
-// A column, or _ for nothing.
-fn dep(rt: &impl Print, column: u8) -> io::Result<()> {
-    if column == 0 {
-        word(rt, b"_")
-    } else {
-        number(rt, (column - 1) as u64)
+impl fmt::Display for Set {
+    fn fmt<W: fmt::Write>(&self, f: &mut fmt::Formatter<W>) -> fmt::Result {
+        let cols = self.0.cols;
+        write!(
+            f,
+            "[{},{},{}]",
+            Column(cols[0]),
+            Column(cols[1]),
+            Column(cols[2])
+        )
     }
 }
 
 // Its first request: no case of this program has more in a batch.
-fn batch(rt: &impl Print, b: Batch) -> io::Result<()> {
-    if b.count == 0 {
-        word(rt, b"empty")
-    } else {
-        let request = b.reqs[0];
-        let kind = request.kind;
-        match kind {
-            Kind::Other => word(rt, b"other"),
-            Kind::Put { key, value: _ } => {
-                word(rt, b"put ")?;
-                number(rt, key as u64)
+#[derive(Clone, Copy)]
+struct Requests(Batch);
+
+impl fmt::Display for Requests {
+    fn fmt<W: fmt::Write>(&self, f: &mut fmt::Formatter<W>) -> fmt::Result {
+        if self.0.count == 0 {
+            return f.write_str("empty");
+        }
+        match self.0.reqs[0].kind {
+            Kind::Other => f.write_str("other"),
+            Kind::Put { key, .. } => write!(f, "put {key}"),
+            Kind::Get { key } => write!(f, "get {key}"),
+        }
+    }
+}
+
+// What a slot, a record or a decision holds.
+#[derive(Clone, Copy)]
+struct Values {
+    seq: u64,
+    deps: DepSet,
+    batch: Batch,
+}
+
+impl fmt::Display for Values {
+    fn fmt<W: fmt::Write>(&self, f: &mut fmt::Formatter<W>) -> fmt::Result {
+        write!(
+            f,
+            "({},{},{})",
+            self.seq,
+            Set(self.deps),
+            Requests(self.batch)
+        )
+    }
+}
+
+impl From<Contents> for Values {
+    fn from(contents: Contents) -> Values {
+        Values {
+            seq: contents.seq,
+            deps: contents.deps,
+            batch: contents.batch,
+        }
+    }
+}
+
+#[derive(Clone, Copy)]
+pub(crate) struct Decided(pub Decision);
+
+impl fmt::Display for Decided {
+    fn fmt<W: fmt::Write>(&self, f: &mut fmt::Formatter<W>) -> fmt::Result {
+        match self.0 {
+            Decision::Wait => f.write_str("wait"),
+            Decision::Committed(contents) => write!(f, "Committed {}", Values::from(contents)),
+            Decision::Accepting(contents) => write!(f, "Accepting {}", Values::from(contents)),
+            Decision::PreAccepting(contents) => {
+                write!(f, "PreAccepting {}", Values::from(contents))
             }
-            Kind::Get { key } => {
-                word(rt, b"get ")?;
-                number(rt, key as u64)
-            }
+            Decision::Refused { number } => write!(f, "refused {number}"),
         }
     }
 }
 
-fn contents(rt: &impl Print, c: Contents) -> io::Result<()> {
-    let deps = c.deps;
-    let with = c.batch;
-    values(rt, c.seq, deps, with)
-}
+#[derive(Clone, Copy)]
+pub(crate) struct Answered(pub Answer);
 
-fn values(rt: &impl Print, seq: u64, deps: DepSet, with: Batch) -> io::Result<()> {
-    word(rt, b" (")?;
-    number(rt, seq)?;
-    word(rt, b",")?;
-    set(rt, deps)?;
-    word(rt, b",")?;
-    batch(rt, with)?;
-    word(rt, b")")
-}
-
-pub(crate) fn decision(rt: &impl Print, d: Decision) -> io::Result<()> {
-    let step = d.step;
-    let with = d.contents;
-    match step {
-        Step::Wait => word(rt, b"wait"),
-        Step::Committed => {
-            word(rt, b"Committed")?;
-            contents(rt, with)
+impl fmt::Display for Answered {
+    fn fmt<W: fmt::Write>(&self, f: &mut fmt::Formatter<W>) -> fmt::Result {
+        match self.0 {
+            Answer::Done => f.write_str("done"),
+            Answer::Ignored => f.write_str("ignored"),
+            Answer::NotYet => f.write_str("notyet"),
+            Answer::Already => f.write_str("already"),
+            Answer::Refused { number } => write!(f, "refused {number}"),
         }
-        Step::Accepting => {
-            word(rt, b"Accepting")?;
-            contents(rt, with)
-        }
-        Step::PreAccepting => {
-            word(rt, b"PreAccepting")?;
-            contents(rt, with)
-        }
-        Step::Refused { number } => refused(rt, number),
     }
 }
 
-fn refused(rt: &impl Print, number: u64) -> io::Result<()> {
-    word(rt, b"refused ")?;
-    rt.print(number)
-}
+#[derive(Clone, Copy)]
+struct At(Place);
 
-pub(crate) fn answer(rt: &impl Print, a: Answer) -> io::Result<()> {
-    match a {
-        Answer::Done => word(rt, b"done"),
-        Answer::Ignored => word(rt, b"ignored"),
-        Answer::NotYet => word(rt, b"notyet"),
-        Answer::Already => word(rt, b"already"),
-        Answer::Refused { number } => refused(rt, number),
+impl fmt::Display for At {
+    fn fmt<W: fmt::Write>(&self, f: &mut fmt::Formatter<W>) -> fmt::Result {
+        write!(f, "{}.{}", self.0.row, self.0.col)
     }
 }
 
-fn status(rt: &impl Print, s: Status) -> io::Result<()> {
-    match s {
-        Status::Null => word(rt, b"Null"),
-        Status::PreAccepting => word(rt, b"PreAccepting"),
-        Status::Accepting => word(rt, b"Accepting"),
-        Status::Committed => word(rt, b"Committed"),
-        Status::Executed => word(rt, b"Executed"),
-    }
-}
+// Whom a record is for, and what it is.
+#[derive(Clone, Copy)]
+struct To(What);
 
-fn place(rt: &impl Print, at: Place) -> io::Result<()> {
-    number(rt, at.row as u64)?;
-    word(rt, b".")?;
-    number(rt, at.col as u64)
+impl fmt::Display for To {
+    fn fmt<W: fmt::Write>(&self, f: &mut fmt::Formatter<W>) -> fmt::Result {
+        match self.0 {
+            What::Nothing => f.write_str("nothing"),
+            What::Log => f.write_str("log"),
+            What::CommitNotice => f.write_str("to all CommitNotice"),
+            What::PreAcceptReply { to } => write!(f, "to {to} PreAcceptReply"),
+            What::AcceptReply { to } => write!(f, "to {to} AcceptReply"),
+            What::ExpPrepareReply { to, .. } => write!(f, "to {to} ExpPrepareReply"),
+            What::NoteToSelf => f.write_str("to self"),
+        }
+    }
 }
 
 // How many slots the row has, and the one at the place; nothing of a place that is not in the table.
 pub(crate) fn slot_at(rt: &impl Print, table: Table, at: Place) -> io::Result<()> {
-    if !table.holds(at) {
+    if !table.holds(at) || 7 <= at.row || 32 <= at.col {
         return Ok(());
     }
-    let row = at.row;
-    if 7 <= row {
-        return Ok(());
-    }
-    if 32 <= at.col {
-        return Ok(());
-    }
-    word(rt, b"; slot ")?;
-    place(rt, at)?;
-    word(rt, b" of ")?;
-    number(rt, table.lens[row] as u64)?;
-    word(rt, b" ")?;
     let slot = table.slot(at);
-    let standing = slot.status;
-    status(rt, standing)?;
-    let deps = slot.deps;
-    let with = slot.batch;
-    values(rt, slot.seq as u64, deps, with)
+    let values = Values {
+        seq: u64::from(slot.seq),
+        deps: slot.deps,
+        batch: slot.batch,
+    };
+    let count = table.lens[at.row];
+    print!(rt; "; slot {} of {count} {:?} {values}", At(at), slot.status)
 }
 
 // Each record that a call puts out.
-pub(crate) fn output(rt: &impl Print, o: Output) -> io::Result<()> {
-    if 0 < o.count {
-        let first = o.records[0];
-        one(rt, first)?;
-    }
-    if 1 < o.count {
-        let second = o.records[1];
-        one(rt, second)?;
+pub(crate) fn output(rt: &impl Print, output: Output) -> io::Result<()> {
+    for record in output.records.iter().take(output.count) {
+        one(rt, *record)?;
     }
     Ok(())
 }
 
-fn one(rt: &impl Print, r: Record) -> io::Result<()> {
-    word(rt, b"; ")?;
-    let kind = r.what;
-    what(rt, kind)?;
-    let at = r.at;
-    place(rt, at)?;
-    word(rt, b" ballot ")?;
-    number(rt, r.ballot)?;
-    word(rt, b" ")?;
-    let standing = r.status;
-    status(rt, standing)?;
-    let deps = r.deps;
-    let with = r.batch;
-    values(rt, r.seq as u64, deps, with)
-}
-
-// Whom a record is for.
-fn what(rt: &impl Print, w: What) -> io::Result<()> {
-    match w {
-        What::Nothing => word(rt, b"nothing "),
-        What::Log => word(rt, b"log "),
-        What::CommitNotice => word(rt, b"to all CommitNotice "),
-        What::PreAcceptReply { to } => reply(rt, to, b" PreAcceptReply "),
-        What::AcceptReply { to } => reply(rt, to, b" AcceptReply "),
-        What::ExpPrepareReply { to, asked: _ } => reply(rt, to, b" ExpPrepareReply "),
-        What::NoteToSelf => word(rt, b"to self "),
-    }
-}
-
-fn reply(rt: &impl Print, to: usize, kind: &[u8]) -> io::Result<()> {
-    word(rt, b"to ")?;
-    number(rt, to as u64)?;
-    word(rt, kind)
-}
-
-// The slots that an attempt has run, given the first two entries of its list: no case of this program runs more.
-pub(crate) fn ran(rt: &impl Print, count: usize, first: u8, second: u8) -> io::Result<()> {
-    if 0 < count {
-        entry(rt, first)?;
-    }
-    if 1 < count {
-        entry(rt, second)?;
-    }
-    Ok(())
-}
-
-// Of the first three rows: no case of this program has more.
-pub(crate) fn bars(rt: &impl Print, b: [usize; 7]) -> io::Result<()> {
-    word(rt, b"; bars ")?;
-    number(rt, b[0] as u64)?;
-    word(rt, b" ")?;
-    number(rt, b[1] as u64)?;
-    word(rt, b" ")?;
-    number(rt, b[2] as u64)
-}
-
-fn entry(rt: &impl Print, e: u8) -> io::Result<()> {
-    word(rt, b" ")?;
-    let at = Place {
-        row: (e / 32) as usize,
-        col: (e % 32) as usize,
+fn one(rt: &impl Print, record: Record) -> io::Result<()> {
+    let values = Values {
+        seq: u64::from(record.seq),
+        deps: record.deps,
+        batch: record.batch,
     };
-    place(rt, at)
+    print!(rt;
+        "; {} {} ballot {} {:?} {values}",
+        To(record.what),
+        At(record.at),
+        record.ballot,
+        record.status
+    )
+}
+
+// The slots that an attempt has run: each entry of the list is 32 * row + column.
+pub(crate) fn ran(rt: &impl Print, order: &[u8], count: usize) -> io::Result<()> {
+    for entry in order.iter().take(count) {
+        print!(rt; " {}.{}", entry / 32, entry % 32)?;
+    }
+    Ok(())
 }
