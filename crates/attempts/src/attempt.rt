@@ -74,6 +74,7 @@ pub fn attempt_from(table: Table, at: Place, order: &mut [u8], from: usize) -> A
     }
 }
 
+#[tactic(auto, using(crate::proofs::ReadLaws::held_index))]
 fn has_run(table: Table, at: Place) -> bool
     requires row_bound { at.row < 7 }
     requires col_bound { at.col < 32 }

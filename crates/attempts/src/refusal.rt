@@ -9,6 +9,7 @@ use table::place::Place;
 use table::table::Table;
 
 // entries: how many the order list has.
+#[tactic(auto, unfolding(crate::specs::Refusal::attempt_refusal, base::specs::Refusals::first_refusal, bounds::specs::Bounds::place_refusal))]
 pub(crate) fn of_attempt(table: Table, at: Place, entries: usize) -> Result<(), Refusal>
     ensures { refused_number result ≡ attempt_refusal table at entries }
 {

@@ -8,7 +8,8 @@ use deps::sets::DepSet;
 use leads::search;
 use std::array;
 
-// A row's first slot that is to be written: its column, 32 for none, and what it leads to.
+// A row's first slot that is to be written: its column, 32 for none, and what it leads to. The column is no Option: 32 stands past
+// every slot of the row, so that heads are compared with prefixes, and moved on, with no case for none.
 #[derive(Clone, Copy)]
 pub struct Head {
     pub col: u8,

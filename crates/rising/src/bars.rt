@@ -8,6 +8,7 @@ use table::place::Place;
 use table::table::Table;
 
 // The first column from the row's bar on whose slot is absent or below Committed.
+#[tactic(auto, using(bounds::proofs::BoundLaws::len_at_most))]
 pub(crate) fn risen(table: Table, row: usize) -> usize
     requires table_value { table_fits table ≡ true }
     requires row_bound { row < 7 }

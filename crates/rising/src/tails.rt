@@ -48,7 +48,7 @@ fn tail(table: &Table, row: usize) -> Option<Place>
     ensures { option_to_list result ≡ tail_in table.now row }
 {
     let bar = table.bars[row];
-    if bar < 1 || 32 < bar {
+    if !(1..=32).contains(&bar) {
         return None;
     }
     let col = bar - 1;

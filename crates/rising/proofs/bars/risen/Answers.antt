@@ -1,22 +1,12 @@
 -- `rising::bars::risen` meets its contract: from the bar on, column by column.
 use mathlib.Core.Path.{sym, ◌∙◌}
 use native.Mathlib.Omega.{arith}
-use Rattle.bounds.proofs.BoundLaws.{table_fits_each, len_at_most}
+use Rattle.bounds.proofs.BoundLaws.{table_fits_each}
 use Rattle.rising.proofs.RisenLaws.{search_begins, search_stops, search_goes, search_ends}
 use Rattle.rising.proofs.bars.risen.Goals as goal
 
 pub loop-col-init : goal.loop-col-init
 loop-col-init c = ((table_fits_each c.args.table c.requires.table_value).bars_fit c.args.row c.requires.row_bound, search_begins c.args.table c.args.row)
-
--- a row has at most 32 slots
-pub overflow_add-row : goal.overflow_add-row
-overflow_add-row c = omega (arith, len_at_most c.args.table c.requires.table_value c.args.row c.requires.row_bound)
-
-pub offset_bounds-table-row-in-loop-col : goal.offset_bounds-table-row-in-loop-col
-offset_bounds-table-row-in-loop-col c = omega (arith, len_at_most c.args.table c.requires.table_value c.args.row c.requires.row_bound)
-
-pub bounds-table-row-in-loop-col : goal.bounds-table-row-in-loop-col
-bounds-table-row-in-loop-col c = omega (arith, len_at_most c.args.table c.requires.table_value c.args.row c.requires.row_bound)
 
 pub returns-then-rank : goal.returns-then-rank
 returns-then-rank c = sym (c.loop-col.invariant.1 ∙ search_stops c.args.table c.args.row c.loop-col.col c.loop-col-test.true (omega (arith, c.rank.ensures, c.rank-in-loop-col.ensures)))
