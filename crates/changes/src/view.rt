@@ -12,6 +12,8 @@ use deps::sets::DepSet;
 use slots::slot::Slot;
 use table::place::Place;
 
+// That within the bounds there are at most seven rows is a clause of who takes a view (`Seven`), and no ghost field: each view
+// that a definition makes, as `view_with`, would have to hold a proof of it.
 #[derive(Clone, Copy)]
 pub struct View {
     pub slot: Slot, // at the message's place; a null slot where the table has none
