@@ -1,4 +1,4 @@
-// The header and the events of a trace, read from a slice and a place.
+// The header and the events of a trace, read from a cursor.
 #![tactic(auto)]
 
 pub mod fields; // fields.rt: places, messages, dependencies
