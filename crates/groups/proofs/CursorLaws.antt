@@ -38,6 +38,9 @@ module _ (least most : ℕ) (x : Number) where
     pub held_in : least ≤ x.value → x.value ≤ most → x ≡ held_to least most x
     held_in l m = rw (eq-eqb x.cursor.refusal 0 h, le-leb least x.value l, le-leb x.value most m)
 
+-- a number held to its bounds, by what is known of it
+pub ruleset held = (held_stopped, held_in, held_under, held_over)
+
 -- ---- with a refusal the value is 0, so a number that is held to its bounds is never above them
 
 stopped_value : (s : List ℕ) (c : Cursor) → ((number_from s c).cursor.refusal ≡ 0 → ⊥) → (number_from s c).value ≡ 0

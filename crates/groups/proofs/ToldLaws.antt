@@ -1,7 +1,6 @@
 -- What each return of the functions over a cursor says.
 use mathlib.Core.Path.{◌≡◌, refl, ap, sym, ◌∙◌}
 use mathlib.Core.List.{List, ◌++◌, append-nil, append_assoc}
-use mathlib.Core.Logic.{◌⊎◌, inl, inr}
 use Prim.Native.Nat.{ℕ, suc, ◌+◌, ◌-◌, ◌<◌, ◌≤◌}
 use native.Mathlib.Omega.{arith}
 use native.Mathlib.Numerals.{add-one}
@@ -11,15 +10,14 @@ use Rattle.std.specs.Prelude.{Result, Ok, Err}
 use Rattle.std.specs.Borrow.{Bor}
 use Rattle.std.specs.Result.{IsErrAnd}
 use Rattle.std.proofs.lemmas.Result.{err_from_is_err_and}
-use Rattle.base.specs.Refusals.{refusal_number, unreadable}
+use Rattle.base.specs.Refusals.{refusal_number}
 use Rattle.base.specs.declared.refusals.Refusal.{Refusal}
 use Rattle.base.specs.declared.refusals.Refusal.TheVariants.{OutsideBounds, NoReplica, NoColumn, BadDependency, BadBatch, OverLimit, NoSlot, ShortOrder, Cut, Unreadable, TooLong}
 use Rattle.groups.specs.Numbers.{Cursor, Number, read, stopped, number_at}
-use Rattle.groups.specs.Cursor.{number_from, number_within, held_to, Numbers, numbers_from}
+use Rattle.groups.specs.Cursor.{number_from, Numbers, numbers_from}
 use Rattle.groups.specs.Told.{standing, Took}
-use Rattle.groups.specs.declared.numbers.Number as Held
 use Rattle.groups.specs.declared.cursor.Cursor as Reader
-use Rattle.groups.proofs.CursorLaws.{from_place, held_stopped, held_under, held_over, held_in}
+use Rattle.groups.proofs.CursorLaws.{from_place}
 use Rattle.groups.proofs.ReadLaws.{numbers_stay_stopped}
 
 -- each refusal has a number, and 0 is none
@@ -48,6 +46,9 @@ module _ {B : Type 0} {before now : Reader.Cursor} {e : Refusal} {part : B} {d :
   pub passed_on : {A : Type 0} (r : Result A Refusal) {value : A} {next : Cursor} → IsErrAnd r (λ x. x ≡ e) → next ≡ d → Took before r now value next
   passed_on r h f = rw (handed_on r e h, f) (record { trace = t.trace; place = t.place; told = t.told })
 
+-- what the exits of functions over a cursor take
+pub ruleset hands_on = (passed_on, was_refused)
+
 -- what is read after other things, said of the cursor before them
 pub then_took : {A B : Type 0} {first now last : Reader.Cursor} {a v : A} {d : Cursor} {r : Result B Refusal} (value : List ℕ → Cursor → B) (next : List ℕ → Cursor → Cursor)
     → Took first (Ok a) now v d → Took now r last (value now.trace.now (standing now.place)) (next now.trace.now (standing now.place))
@@ -71,47 +72,13 @@ module _ (c : Reader.Cursor) where
     from_there : (n : Number) → n ≡ number_at c.trace.now at → number_from c.trace.now (standing c.place) ≡ n
     from_there n h = rw f (sym (from_place c.trace.now (record { at = at; refusal = 0 }) refl) ∙ sym h)
 
-    pub number_read : (n : Held.Number) → read n.value n.next ≡ number_at c.trace.now at
-        → Took c (Ok n.value) (record { trace = c.trace; place = Ok n.next }) (number_from c.trace.now (standing c.place)).value (number_from c.trace.now (standing c.place)).cursor
-    number_read n h = rw (from_there (read n.value n.next) h) (record { trace = refl; place = refl; told = (refl, refl) })
+    pub number_read : (value next : ℕ) → read value next ≡ number_at c.trace.now at
+        → Took c (Ok value) (record { trace = c.trace; place = Ok next }) (number_from c.trace.now (standing c.place)).value (number_from c.trace.now (standing c.place)).cursor
+    number_read value next h = rw (from_there (read value next) h) (record { trace = refl; place = refl; told = (refl, refl) })
 
     pub number_refused : (e : Refusal) → stopped (refusal_number e) ≡ number_at c.trace.now at
         → Took {A = ℕ} c (Err e) (record { trace = c.trace; place = Err e }) (number_from c.trace.now (standing c.place)).value (number_from c.trace.now (standing c.place)).cursor
     number_refused e h = rw (from_there (stopped (refusal_number e)) h) (record { trace = refl; place = refl; told = refl })
-
--- ---- one held to bounds
-
-module _ (least most : ℕ) (c now : Reader.Cursor) where
-  -- as it was read
-  abbrev pub the_number : Number
-  the_number = number_from c.trace.now (standing c.place)
-
-  abbrev pub the_within : Number
-  the_within = number_within least most c.trace.now (standing c.place)
-
-  pub within_refused : (e : Refusal) → Took {A = ℕ} c (Err e) now the_number.value the_number.cursor → (r : Result ℕ Refusal) → IsErrAnd r (λ x. x ≡ e)
-      → Took c r now the_within.value the_within.cursor
-  unfolding number_within
-  within_refused e t r h =
-      passed_on t r h (ap (λ (x : Number). x.cursor) (sym (held_stopped least most the_number (omega (arith, t.told, refusal_some e)))))
-
-  module _ (value : ℕ) (t : Took c (Ok value) now the_number.value the_number.cursor) where
-    pub within_outside : (value < least) ⊎ ((least ≤ value) × (most < value))
-        → Took {A = ℕ} c (Err Unreadable) (record { trace = now.trace; place = Err Unreadable }) the_within.value the_within.cursor
-    unfolding number_within
-    within_outside h =
-        let e : stopped unreadable ≡ held_to least most the_number = elim h [
-          | inl l ↦ held_under least most the_number t.told.1 (omega (arith, t.told.0))
-          | inr m ↦ held_over least most the_number t.told.1 (omega (arith, t.told.0, m.0)) (omega (arith, t.told.0, m.1))
-        ] in
-        rw (← e) (record { trace = t.trace; place = refl; told = refl })
-
-    pub within_inside : least ≤ value → value ≤ most → Took c (Ok value) now the_within.value the_within.cursor
-    unfolding number_within
-    within_inside l m =
-        let e : the_number ≡ held_to least most the_number
-        = held_in least most the_number t.told.1 (omega (arith, t.told.0)) (omega (arith, t.told.0)) in
-        rw (← e) t
 
 -- ---- so many
 

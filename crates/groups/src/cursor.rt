@@ -25,6 +25,7 @@ impl<'a> Cursor<'a> {
     }
 
     // The next number.
+    #[tactic(auto, using(crate::proofs::ToldLaws::place_refused, crate::proofs::ReadLaws::stays_stopped, crate::proofs::ToldLaws::number_refused))]
     pub fn number(&mut self) -> Result<u64, Refusal>
         ensures { let x = number_from self.old.trace.now (standing self.old.place) in Took self.old result self.new x.value x.cursor }
     {
@@ -42,6 +43,7 @@ impl<'a> Cursor<'a> {
     }
 
     // A number that stands for something only from least to most.
+    #[tactic(auto, using(crate::proofs::ToldLaws::hands_on, crate::proofs::CursorLaws::held), unfolding(crate::specs::Cursor::number_within))]
     pub fn number_within(&mut self, least: u64, most: u64) -> Result<u64, Refusal>
         ensures { let x = number_within least most self.old.trace.now (standing self.old.place) in Took self.old result self.new x.value x.cursor }
     {
@@ -54,6 +56,7 @@ impl<'a> Cursor<'a> {
     }
 
     // So many numbers.
+    #[tactic(auto, using(crate::proofs::ToldLaws::place_refused, crate::proofs::ReadLaws::numbers_stay_stopped))]
     pub fn numbers<const N: usize>(&mut self) -> Result<[u64; N], Refusal>
         ensures { let x = numbers_from N self.old.trace.now (standing self.old.place) in Took self.old result self.new x.values x.cursor }
     {

@@ -14,6 +14,7 @@ pub struct Number {
 }
 
 // The number that begins at the place.
+#[tactic(auto, using(crate::proofs::StepLaws::number_cut, crate::proofs::StepLaws::number_one, crate::proofs::StepLaws::later_room))]
 pub fn number_at(trace: &[u8], at: usize) -> Result<Number, Refusal>
     ensures { numbered result ≡ number_at trace.now at }
 {
@@ -32,6 +33,7 @@ pub fn number_at(trace: &[u8], at: usize) -> Result<Number, Refusal>
 }
 
 // The groups after one with its high bit set; after the next so many may follow. The tenth of a number can only be 1.
+#[tactic(auto, using(crate::proofs::StepLaws::later_cut, crate::proofs::StepLaws::later_room))]
 fn later_at(trace: &[u8], at: usize, left: usize) -> Result<Number, Refusal>
     requires { left ≤ 8 }
     ensures { numbered result ≡ landed at (later_in left (drop at trace.now)) }
@@ -73,6 +75,7 @@ fn with_group(b: u64, rest: Number) -> Number
 }
 
 // Writes a number from a place on, and gives the place after it.
+#[tactic(auto, unfolding(crate::specs::Numbers::bytes_of))]
 pub fn put(out: &mut [u8], at: usize, number: u64) -> usize
     requires { at + 10 ≤ length out.old }
     ensures place { result ≡ at + length (bytes_of number) }

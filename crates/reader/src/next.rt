@@ -16,6 +16,7 @@ pub struct Next {
 }
 
 // The event at a place, or the refusal that is met there. n is the population.
+#[tactic(auto, using(groups::proofs::ToldLaws::handed_on), unfolding(crate::specs::Next::next_at))]
 pub fn next_at(trace: &[u8], at: usize, n: usize) -> Result<Next, Refusal>
     requires { n ≤ 7 }
     ensures { let x = next_at n trace.now at in Tells result (went_by x) x.refusal }

@@ -103,3 +103,5 @@ module _ (s : List ℕ) (c : Cursor) (z : c.refusal ≡ 0 → ⊥) where
 
   pub by_tag_stopped : (tag : Tag) (n : ℕ) → (by_tag tag n s c).cursor ≡ c
   by_tag_stopped tag n = by_tag_keeps s Here one within tag n c refl
+
+pub ruleset stopped = (by_kind_stopped, kind_stopped, requests_stopped, batch_stopped, from_seq_stopped, from_message_stopped, by_tag_stopped)

@@ -1,6 +1,5 @@
 pub mod KeepLaws
 pub mod LoopLaws
-pub mod TagLaws
 pub mod HeldLaws
 pub mod StandLaws
 pub mod SoundLaws

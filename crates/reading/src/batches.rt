@@ -9,6 +9,7 @@ use deps::batches::{Batch, Kind, Request};
 use groups::cursor::Cursor;
 
 // A count of at most 4, and as many requests.
+#[tactic(auto, using(groups::proofs::ToldLaws::hands_on, crate::proofs::KeepLaws::stopped), unfolding(crate::specs::Batches::batch_from))]
 pub(crate) fn batch(cursor: &mut Cursor) -> Result<Batch, Refusal>
     ensures { let x = batch_from cursor.old.trace.now (standing cursor.old.place) in Took cursor.old result cursor.new (held_batch x.batch) x.cursor }
 {
@@ -22,6 +23,7 @@ pub(crate) fn batch(cursor: &mut Cursor) -> Result<Batch, Refusal>
 }
 
 // Client, id, kind.
+#[tactic(auto, using(groups::proofs::ToldLaws::hands_on, crate::proofs::KeepLaws::stopped), unfolding(crate::specs::Batches::request_from))]
 fn request(cursor: &mut Cursor) -> Result<Request, Refusal>
     ensures { let x = request_from cursor.old.trace.now (standing cursor.old.place) in Took cursor.old result cursor.new (held_request x.request) x.cursor }
 {
@@ -31,6 +33,7 @@ fn request(cursor: &mut Cursor) -> Result<Request, Refusal>
 }
 
 // 0 other, 1 put with key and value, 2 get with key.
+#[tactic(auto, using(groups::proofs::ToldLaws::hands_on, crate::proofs::KeepLaws::stopped, groups::proofs::CursorLaws::within_most), unfolding(crate::specs::Batches::kind_from))]
 fn kind(cursor: &mut Cursor) -> Result<Kind, Refusal>
     ensures { let x = kind_from cursor.old.trace.now (standing cursor.old.place) in Took cursor.old result cursor.new (held_kind x.kind) x.cursor }
 {

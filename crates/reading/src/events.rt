@@ -24,6 +24,7 @@ pub struct Head {
 }
 
 // N, own number, simple, super.
+#[tactic(auto, using(groups::proofs::ToldLaws::handed_on), unfolding(crate::specs::Events::header_of))]
 pub fn header(trace: &[u8]) -> Result<Head, Refusal>
     ensures { let x = header_of trace.now in Tells result (headed x) x.cursor.refusal }
 {
@@ -40,6 +41,7 @@ pub fn header(trace: &[u8]) -> Result<Head, Refusal>
 }
 
 // An event: a tag, and what it asks for. n is the population.
+#[tactic(auto, using(groups::proofs::ToldLaws::hands_on, crate::proofs::KeepLaws::stopped, groups::proofs::ReadLaws::within_stays_stopped), unfolding(crate::specs::Events::event_from))]
 pub fn event(cursor: &mut Cursor, n: usize) -> Result<Event, Refusal>
     requires { n ≤ 7 }
     ensures { let x = event_from n cursor.old.trace.now (standing cursor.old.place) in Took cursor.old result cursor.new (event_of (held x.call)) x.cursor }
@@ -84,6 +86,7 @@ pub fn event(cursor: &mut Cursor, n: usize) -> Result<Event, Refusal>
 }
 
 // Message, sequence, n dependencies, batch.
+#[tactic(auto, using(groups::proofs::ToldLaws::hands_on, crate::proofs::KeepLaws::stopped), unfolding(crate::specs::Events::proposal_from))]
 fn proposal(cursor: &mut Cursor, n: usize) -> Result<Proposal, Refusal>
     requires { n ≤ 7 }
     ensures { let x = proposal_from n cursor.old.trace.now (standing cursor.old.place) in Took cursor.old result cursor.new (held_proposal x.proposal) x.cursor }

@@ -11,6 +11,7 @@ use outcomes::message::Message;
 use table::place::Place;
 
 // Row, column.
+#[tactic(auto, using(groups::proofs::ToldLaws::hands_on), unfolding(crate::specs::Fields::place_from))]
 pub(crate) fn place(cursor: &mut Cursor) -> Result<Place, Refusal>
     ensures { let x = place_from cursor.old.trace.now (standing cursor.old.place) in Took cursor.old result cursor.new x.at x.cursor }
 {
@@ -22,6 +23,7 @@ pub(crate) fn place(cursor: &mut Cursor) -> Result<Place, Refusal>
 }
 
 // Peer, row, column, ballot.
+#[tactic(auto, using(groups::proofs::ToldLaws::hands_on), unfolding(crate::specs::Fields::message_from))]
 pub(crate) fn message(cursor: &mut Cursor) -> Result<Message, Refusal>
     ensures { let x = message_from cursor.old.trace.now (standing cursor.old.place) in Took cursor.old result cursor.new x.message x.cursor }
 {
@@ -37,6 +39,7 @@ pub(crate) fn message(cursor: &mut Cursor) -> Result<Message, Refusal>
 }
 
 // n dependencies, each 0 or column + 1.
+#[tactic(auto, using(groups::proofs::ToldLaws::place_refused, groups::proofs::ReadLaws::numbers_stay_stopped), unfolding(crate::specs::Fields::set_from))]
 pub(crate) fn set(cursor: &mut Cursor, n: usize) -> Result<DepSet, Refusal>
     requires { n ≤ 7 }
     ensures { let x = set_from n cursor.old.trace.now (standing cursor.old.place) in Took cursor.old result cursor.new (held_set x.set) x.cursor }

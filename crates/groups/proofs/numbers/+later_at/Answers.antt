@@ -3,12 +3,9 @@ use Prim.Native.Nat.{◌+◌, ◌-◌}
 use native.Mathlib.Omega.{arith}
 use Rattle.base.specs.Refusals.{refusal_number}
 use Rattle.groups.specs.Numbers.{read, stopped}
-use Rattle.groups.proofs.StepLaws.{later_cut, later_tenth, later_last, later_more, later_room, joins_stopped}
+use Rattle.groups.proofs.StepLaws.{later_tenth, later_last, later_more, joins_stopped}
 use Rattle.groups.proofs.ToldLaws.{refusal_some, handed_on}
 use Rattle.groups.proofs.numbers.+later_at.Goals as goal
-
-pub returns-then-trace-at : goal.returns-then-trace-at
-returns-then-trace-at t c = later_cut c.args.trace.now c.args.at c.args.left c.if-trace-at.true
 
 pub returns-then-left-eq0 : goal.returns-then-left-eq0
 returns-then-left-eq0 t c =
@@ -30,11 +27,6 @@ returns-in_err-rest t c =
     rw (handed_on c.from_residual.result e c.from_residual.ensures.1)
     (sym (joins_stopped c.from-b.result (refusal_number e) (refusal_some e))
     ∙ later_more a.trace.now a.at c.from-b.result (omega arith) c.from-b.ensures a.left (omega arith) c.if-b-lt128.false (stopped (refusal_number e)) c.in_err-rest.ensures)
-
-pub with_group-requires : goal.with_group-requires
-with_group-requires t c =
-    let n = c.in_ok-rest.rest in
-    later_room (read n.value n.next) (c.args.at + 1) (c.args.left - 1) _ (omega arith) c.in_ok-rest.ensures
 
 pub returns : goal.returns
 returns t c =

@@ -3,23 +3,13 @@ use Prim.Native.Nat.{ℕ}
 use native.Mathlib.Omega.{arith}
 use Rattle.deps.specs.Batches.{batch_of}
 use Rattle.groups.specs.Numbers.{Cursor}
-use Rattle.groups.specs.Cursor.{number_within}
 use Rattle.groups.specs.Told.{standing}
 use Rattle.groups.proofs.CursorLaws.{within_most}
-use Rattle.groups.proofs.ToldLaws.{was_refused, passed_on, then_took}
+use Rattle.groups.proofs.ToldLaws.{passed_on, then_took}
 use Rattle.reading.specs.Batches.{requests_from, batch_from}
 use Rattle.reading.specs.Held.{held_batch}
-use Rattle.reading.proofs.KeepLaws.{requests_stopped}
 use Rattle.reading.proofs.LoopLaws.{request_read, request_refused, requests_read}
 use Rattle.reading.proofs.batches.batch.Goals as goal
-
-pub returns-in_err-count : goal.returns-in_err-count
-unfolding batch_from
-returns-in_err-count c =
-    let t = c.in_err-count.ensures in
-    let k = c.args.cursor.now in
-    let x = number_within 0 4 k.trace.now (standing k.place) in
-    passed_on t c.from_residual.result c.from_residual.ensures.1 (requests_stopped k.trace.now x.cursor (was_refused t) x.value)
 
 pub loop-preserved : goal.loop-preserved
 loop-preserved c =

@@ -1,15 +1,5 @@
-use Rattle.groups.specs.Told.{standing}
-use Rattle.groups.proofs.ReadLaws.{numbers_stay_stopped}
-use Rattle.groups.proofs.ToldLaws.{place_refused}
-use Rattle.reading.specs.Fields.{set_from}
 use Rattle.reading.proofs.LoopLaws.{row_read, row_refused, rows_read}
 use Rattle.reading.proofs.fields.set.Goals as goal
-
-pub returns-in_err-cursor : goal.returns-in_err-cursor
-unfolding set_from
-returns-in_err-cursor c =
-    let s = c.args.cursor.now in
-    place_refused s c.in_err-cursor.field-0.0 c.in_err-cursor.was c.from_residual.result c.from_residual.ensures.1 (numbers_stay_stopped c.args.n s.trace.now (standing s.place))
 
 pub loop-row-preserved : goal.loop-row-preserved
 loop-row-preserved c =

@@ -1,12 +1,5 @@
-use Rattle.groups.specs.Told.{standing}
-use Rattle.groups.proofs.ReadLaws.{numbers_stay_stopped}
-use Rattle.groups.proofs.ToldLaws.{place_refused, read_one, one_refused, all_read}
+use Rattle.groups.proofs.ToldLaws.{read_one, one_refused, all_read}
 use Rattle.groups.proofs.cursor.Cursor.numbers.Goals as goal
-
-pub returns-in_err-self : goal.returns-in_err-self
-returns-in_err-self g c =
-    let s = c.args.self.now in
-    place_refused s c.in_err-self.field-0.0 c.in_err-self.was c.from_residual.result c.from_residual.ensures.1 (numbers_stay_stopped g.row.N s.trace.now (standing s.place))
 
 pub loop-value-preserved : goal.loop-value-preserved
 loop-value-preserved g c =
