@@ -9,6 +9,7 @@ use image::tables::put_table;
 use passed::slices::size;
 
 // On an image of any length: a refusal leaves it as it was.
+#[tactic(auto, unfolding(crate::specs::Messages::open_code, crate::specs::Messages::open_image))]
 pub fn open_on(n: u64, own: u64, simple: u64, sup: u64, image: &mut [u8]) -> u64
     ensures result { result ≡ open_code n own simple sup image.old }
     ensures table { image.new ≡ open_image n own simple sup image.old }
@@ -17,12 +18,8 @@ pub fn open_on(n: u64, own: u64, simple: u64, sup: u64, image: &mut [u8]) -> u64
         return SHORT;
     }
     let opened = open(size(n), size(own), size(simple), size(sup));
-    let answer = opened.answer;
-    let number = answer.number();
-    if is_refused(answer) {
-        return number;
+    if !is_refused(opened.answer) {
+        put_table(image, opened.table);
     }
-    let table = opened.table;
-    put_table(image, table);
-    number
+    opened.answer.number()
 }
