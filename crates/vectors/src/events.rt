@@ -1,152 +1,74 @@
 // Events of a run: a tag, which is a trace's, and what the event holds.
-ghost use Rattle.std.specs.Prelude.{◌≤◌};
-
-use super::list::{LOST, Number, number_at};
-use super::parts::{batch_at, set_at};
-use base::log_status::is_status;
+use super::list::List;
+use base::log_status::LogStatus;
 use deps::batches::Batch;
 use deps::sets::DepSet;
 use outcomes::message::{Message, Proposal};
+use steps::event::{Event, Tag};
 use table::place::Place;
 
-// 1 PreAccept, 2 Accept, 3 CommitNotice, 4 AcceptReply, 5 ExpPrepare, 6 Logged, 7 Attempt, 8 Lead. From the fourth on they
-// have no use for all of the proposal. The status is that of a Logged.
-#[derive(Clone, Copy)]
-pub struct Event {
-    pub tag: u64,
-    pub proposal: Proposal,
-    pub status: u64,
-    pub next: usize,
-}
+impl List<'_> {
+    pub(crate) fn event(&mut self, n: u64) -> Option<Event> {
+        let tag = Tag::try_from(self.any()?).ok()?;
+        let mut status = LogStatus::Committed; // the events but Logged have no use for it
+        let proposal = match tag {
+            Tag::PreAccept | Tag::Accept | Tag::CommitNotice => self.proposal(n)?,
+            Tag::AcceptReply | Tag::ExpPrepare => without_contents(self.message()?),
+            Tag::Logged => {
+                let place = self.place()?;
+                status = LogStatus::try_from(self.any()?).ok()?;
+                from_nobody(place)
+            }
+            Tag::Attempt | Tag::Lead => from_nobody(self.place()?),
+        };
+        Some(Event {
+            tag,
+            proposal,
+            status,
+        })
+    }
 
-#[derive(Clone, Copy)]
-pub struct ReadPlace {
-    pub place: Place,
-    pub next: usize,
-}
+    // Peer, row, column, ballot, sequence, set, batch.
+    fn proposal(&mut self, n: u64) -> Option<Proposal> {
+        Some(Proposal {
+            message: self.message()?,
+            seq: self.any()?,
+            deps: self.set(n)?,
+            batch: self.batch()?,
+        })
+    }
 
-#[derive(Clone, Copy)]
-pub struct ReadMessage {
-    pub message: Message,
-    pub next: usize,
-}
+    // Peer, row, column, ballot.
+    fn message(&mut self) -> Option<Message> {
+        Some(Message {
+            peer: self.any()? as usize,
+            at: self.place()?,
+            ballot: self.any()?,
+        })
+    }
 
-pub(crate) fn event_at(list: &[u8], at: usize, n: u64) -> Event
-    requires { n ≤ 7 }
-{
-    let number = number_at(list, at, u64::MAX);
-    let tag = number.value;
-    match tag {
-        1 | 2 | 3 => proposal_at(list, number.next, n, tag),
-        4 | 5 => without_contents(tag, message_at(list, number.next)),
-        6 => logged_at(list, number.next, tag),
-        7 | 8 => without_contents(tag, from_nobody_at(list, number.next)),
-        _ => without_contents(tag, message_at(list, LOST)),
+    pub(crate) fn place(&mut self) -> Option<Place> {
+        Some(Place {
+            row: self.any()? as usize,
+            col: self.any()? as usize,
+        })
     }
 }
 
-// Peer, row, column, ballot, sequence, set, batch.
-fn proposal_at(list: &[u8], at: usize, n: u64, tag: u64) -> Event
-    requires { n ≤ 7 }
-{
-    let head = message_at(list, at);
-    let seq = number_at(list, head.next, u64::MAX);
-    let set = set_at(list, seq.next, n);
-    let read = batch_at(list, set.next);
-    let message = head.message;
-    let cols = set.cols;
-    let deps = DepSet { cols: cols };
-    let batch = read.batch;
-    let proposal = Proposal {
-        message: message,
-        seq: seq.value,
-        deps: deps,
-        batch: batch,
-    };
-    Event {
-        tag: tag,
-        proposal: proposal,
-        status: 0,
-        next: read.next,
-    }
-}
-
-fn without_contents(tag: u64, head: ReadMessage) -> Event {
-    let message = head.message;
-    let proposal = Proposal {
-        message: message,
+fn without_contents(message: Message) -> Proposal {
+    Proposal {
+        message,
         seq: 0,
         deps: DepSet::EMPTY,
         batch: Batch::NO_OP,
-    };
-    Event {
-        tag: tag,
-        proposal: proposal,
-        status: 0,
-        next: head.next,
     }
 }
 
-// Row, column, status.
-fn logged_at(list: &[u8], at: usize, tag: u64) -> Event {
-    let head = from_nobody_at(list, at);
-    let status = status_at(list, head.next);
-    let mut event = without_contents(tag, head);
-    event.status = status.value;
-    event.next = status.next;
-    event
-}
-
-// The number of a log status; one that stands for none cannot be read.
-fn status_at(list: &[u8], at: usize) -> Number {
-    let number = number_at(list, at, u64::MAX);
-    if !is_status(number.value) {
-        return Number::NONE;
-    }
-    number
-}
-
-// Peer, row, column, ballot.
-fn message_at(list: &[u8], at: usize) -> ReadMessage {
-    let peer = number_at(list, at, u64::MAX);
-    let read = place_at(list, peer.next);
-    let ballot = number_at(list, read.next, u64::MAX);
-    let place = read.place;
-    let message = Message {
-        peer: peer.value as usize,
-        at: place,
-        ballot: ballot.value,
-    };
-    ReadMessage {
-        message: message,
-        next: ballot.next,
-    }
-}
-
-// Row, column: a Logged, an Attempt and a Lead are no messages.
-fn from_nobody_at(list: &[u8], at: usize) -> ReadMessage {
-    let read = place_at(list, at);
-    let place = read.place;
-    let message = Message {
+// A Logged, an Attempt and a Lead are no messages.
+fn from_nobody(at: Place) -> Proposal {
+    without_contents(Message {
         peer: 0,
-        at: place,
+        at,
         ballot: 0,
-    };
-    ReadMessage {
-        message: message,
-        next: read.next,
-    }
-}
-
-pub(crate) fn place_at(list: &[u8], at: usize) -> ReadPlace {
-    let row = number_at(list, at, u64::MAX);
-    let col = number_at(list, row.next, u64::MAX);
-    let place = Place {
-        row: row.value as usize,
-        col: col.value as usize,
-    };
-    ReadPlace {
-        place: place,
-        next: col.next,
-    }
+    })
 }

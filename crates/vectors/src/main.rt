@@ -3,9 +3,8 @@
 // are and which of them differ. The first argument names the list.
 #![tactic(auto)]
 
-mod text; // text.rt: how words, numbers and lines are printed
-mod list; // list.rt: the head of the list, and the numbers after it
-mod parts; // parts.rt: what cases are made of, out of numbers: marks, sets, batches
+mod list; // list.rt: what is left of the list, and the numbers in it
+mod parts; // parts.rt: what cases are made of, out of numbers: configurations, marks, sets, batches
 mod outcome; // outcome.rt: how a case went: what the function answers beside what the list has
 mod union; // union.rt: cases of the union
 mod fast; // fast.rt: cases of the fast decision
@@ -13,7 +12,6 @@ mod choice; // choice.rt: cases of both recovery choices
 mod identify; // identify.rt: cases of the key columns
 mod contents; // contents.rt: what slots and records have alike
 mod events; // events.rt: events of a run
-mod happen; // happen.rt: what an event does
 mod records; // records.rt: what an event puts out, beside the list
 mod ran; // ran.rt: the slots that an event runs, beside the list
 mod tables; // tables.rt: the table after a run, beside the list
@@ -40,7 +38,7 @@ fn main(rt: HostRuntime) -> io::Result<()> {
     let mut room = [0u8; ROOM];
     let count = read(file, &mut room)?;
     if count == ROOM {
-        return text::word(&rt, b"the list is too long\n");
+        return println!(rt; "the list is too long");
     }
     replay::replay(&rt, &room[..count])
 }

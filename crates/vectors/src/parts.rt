@@ -1,8 +1,7 @@
-// What cases are made of. What .._at answers has the place after it in next; what read_.. reads is put into bytes, and the
-// place after it is answered. That place is LOST where something cannot be read.
-ghost use Rattle.std.specs.Prelude.{◌+◌, ◌≤◌, length};
+// What cases are made of: configurations, marks, sets, batches. What put_.. reads is put into bytes.
+ghost use Rattle.std.specs.Prelude.{◌+◌, ◌≤◌, length, IfSome};
 
-use super::list::{Number, number_at};
+use super::list::List;
 use deps::batches::{Batch, Kind, Request};
 use deps::sets::DepSet;
 use layout::batches::put_batch;
@@ -16,172 +15,108 @@ pub struct Config {
     pub own: u64,
     pub simple: u64,
     pub sup: u64,
-    pub next: usize,
 }
 
-#[derive(Clone, Copy)]
-pub struct ReadSet {
-    pub cols: [u8; 7],
-    pub next: usize,
-}
-
-#[derive(Clone, Copy)]
-pub struct ReadKind {
-    pub kind: Kind,
-    pub next: usize,
-}
-
-#[derive(Clone, Copy)]
-pub struct ReadBatch {
-    pub batch: Batch,
-    pub next: usize,
-}
-
-pub(crate) fn config_at(list: &[u8], at: usize) -> Config
-    ensures { result.n ≤ 7 }
-{
-    let n = number_at(list, at, 7);
-    let own = number_at(list, n.next, u64::MAX);
-    let simple = number_at(list, own.next, u64::MAX);
-    let sup = number_at(list, simple.next, u64::MAX);
-    Config {
-        n: n.value,
-        own: own.value,
-        simple: simple.value,
-        sup: sup.value,
-        next: sup.next,
+impl List<'_> {
+    pub(crate) fn config(&mut self) -> Option<Config> {
+        Some(Config {
+            n: self.number(7)?,
+            own: self.any()?,
+            simple: self.any()?,
+            sup: self.any()?,
+        })
     }
-}
 
-// How many replicas are marked, and then which.
-pub(crate) fn read_marks(list: &[u8], at: usize, marks: &mut [u8]) -> usize
-    requires { 7 ≤ length marks.old }
-{
-    let count = number_at(list, at, 7);
-    let marked = count.value;
-    let mut next = count.next;
-    for _ in 0..marked {
-        let replica = read_mark(list, next, marks);
-        next = replica.next;
+    // How many replicas are marked, and then which.
+    pub(crate) fn put_marks(&mut self, marks: &mut [u8]) -> Option<()>
+        requires { 7 ≤ length marks.old }
+    {
+        let count = self.number(7)?;
+        for _ in 0..count {
+            self.put_mark(marks)?;
+        }
+        Some(())
     }
-    next
-}
 
-// A replica, marked by a 1 in its place.
-pub(crate) fn read_mark(list: &[u8], at: usize, marks: &mut [u8]) -> Number
-    requires { 7 ≤ length marks.old }
-    ensures { result.value ≤ 6 }
-{
-    let replica = number_at(list, at, 6);
-    let r = replica.value as usize;
-    marks[r] = 1;
-    replica
-}
-
-// A status, put as one byte.
-pub(crate) fn read_byte(list: &[u8], at: usize, out: &mut [u8], to: usize) -> usize
-    requires { to + 1 ≤ length out.old }
-{
-    let number = number_at(list, at, 255);
-    out[to] = number.value as u8;
-    number.next
-}
-
-// A sequence, put as eight bytes.
-pub(crate) fn read_word(list: &[u8], at: usize, out: &mut [u8], to: usize) -> usize
-    requires { to + 8 ≤ length out.old }
-{
-    let number = number_at(list, at, u64::MAX);
-    put_word(out, to, number.value);
-    number.next
-}
-
-// A set, put as seven bytes.
-pub(crate) fn read_set(list: &[u8], at: usize, n: u64, out: &mut [u8], to: usize) -> usize
-    requires n_bound { n ≤ 7 }
-    requires to_in_bounds { to + 7 ≤ length out.old }
-{
-    let read = set_at(list, at, n);
-    let cols = read.cols;
-    put_set(out, to, DepSet { cols: cols });
-    read.next
-}
-
-// A batch, put as 109 bytes.
-pub(crate) fn read_batch(list: &[u8], at: usize, out: &mut [u8], to: usize) -> usize
-    requires { to + 109 ≤ length out.old }
-{
-    let read = batch_at(list, at);
-    let batch = read.batch;
-    put_batch(out, to, batch);
-    read.next
-}
-
-// The first n rows, each 0 for nothing or a column and one; the others have nothing.
-pub(crate) fn set_at(list: &[u8], at: usize, n: u64) -> ReadSet
-    requires { n ≤ 7 }
-{
-    let rows = n as usize;
-    let mut cols = [0u8; 7];
-    let mut next = at;
-    for row in 0..rows {
-        let number = number_at(list, next, 255);
-        cols[row] = number.value as u8;
-        next = number.next;
+    // A replica, marked by a 1 in its place.
+    pub(crate) fn put_mark(&mut self, marks: &mut [u8]) -> Option<usize>
+        requires { 7 ≤ length marks.old }
+        ensures { IfSome result (λ replica. replica ≤ 6) }
+    {
+        let replica = self.number(6)? as usize;
+        marks[replica] = 1;
+        Some(replica)
     }
-    ReadSet {
-        cols: cols,
-        next: next,
-    }
-}
 
-// How many requests there are, and then client, id and kind of each.
-pub(crate) fn batch_at(list: &[u8], at: usize) -> ReadBatch {
-    let count = number_at(list, at, 4);
-    let held = count.value;
-    let mut batch = Batch::NO_OP;
-    let mut next = count.next;
-    for _ in 0..held {
-        let client = number_at(list, next, u64::MAX);
-        let id = number_at(list, client.next, u64::MAX);
-        let read = kind_at(list, id.next);
-        let kind = read.kind;
-        batch = batch.with(Request {
-            client: client.value,
-            id: id.value,
-            kind: kind,
-        });
-        next = read.next;
+    // A status, put as one byte.
+    pub(crate) fn put_byte(&mut self, out: &mut [u8], to: usize) -> Option<()>
+        requires { to + 1 ≤ length out.old }
+    {
+        out[to] = self.byte()?;
+        Some(())
     }
-    ReadBatch {
-        batch: batch,
-        next: next,
-    }
-}
 
-// 0 other; 1 put, with key and value; 2 get, with a key.
-fn kind_at(list: &[u8], at: usize) -> ReadKind {
-    let kind = number_at(list, at, 2);
-    if kind.value == 0 {
-        return ReadKind {
-            kind: Kind::Other,
-            next: kind.next,
-        };
+    // A sequence, put as eight bytes.
+    pub(crate) fn put_word(&mut self, out: &mut [u8], to: usize) -> Option<()>
+        requires { to + 8 ≤ length out.old }
+    {
+        put_word(out, to, self.any()?);
+        Some(())
     }
-    let key = number_at(list, kind.next, 65535);
-    let k = key.value as u16;
-    if kind.value == 2 {
-        return ReadKind {
-            kind: Kind::Get { key: k },
-            next: key.next,
-        };
+
+    // A set of n rows, put as seven bytes.
+    pub(crate) fn put_set(&mut self, n: u64, out: &mut [u8], to: usize) -> Option<()>
+        requires { to + 7 ≤ length out.old }
+    {
+        put_set(out, to, self.set(n)?);
+        Some(())
     }
-    let value = number_at(list, key.next, u64::MAX);
-    ReadKind {
-        kind: Kind::Put {
-            key: k,
-            value: value.value,
-        },
-        next: value.next,
+
+    // A batch, put as 109 bytes.
+    pub(crate) fn put_batch(&mut self, out: &mut [u8], to: usize) -> Option<()>
+        requires { to + 109 ≤ length out.old }
+    {
+        put_batch(out, to, self.batch()?);
+        Some(())
+    }
+
+    // The first n rows, each 0 for nothing or a column and one; the others have nothing.
+    pub(crate) fn set(&mut self, n: u64) -> Option<DepSet> {
+        let mut set = DepSet::EMPTY;
+        for number in set.cols.iter_mut().take(n as usize) {
+            *number = self.byte()?;
+        }
+        Some(set)
+    }
+
+    // How many requests there are, and then client, id and kind of each.
+    pub(crate) fn batch(&mut self) -> Option<Batch> {
+        let held = self.number(4)?;
+        let mut batch = Batch::NO_OP;
+        for _ in 0..held {
+            batch = batch.with(Request {
+                client: self.any()?,
+                id: self.any()?,
+                kind: self.kind()?,
+            });
+        }
+        Some(batch)
+    }
+
+    // 0 other; 1 put, with key and value; 2 get, with a key.
+    fn kind(&mut self) -> Option<Kind> {
+        match self.any()? {
+            0 => Some(Kind::Other),
+            1 => Some(Kind::Put {
+                key: self.key()?,
+                value: self.any()?,
+            }),
+            2 => Some(Kind::Get { key: self.key()? }),
+            _ => None,
+        }
+    }
+
+    fn key(&mut self) -> Option<u16> {
+        u16::try_from(self.any()?).ok()
     }
 }

@@ -1,9 +1,6 @@
 // The counts of a replay, and what is printed of it: a line for each difference, and the counts.
-use super::list::LOST;
 use super::outcome::Outcome;
-use super::text;
 use std::io;
-use std::num::wrapping_add_u64;
 
 // One more than the number of the last kind.
 const KINDS: usize = 7;
@@ -22,54 +19,55 @@ impl Tally {
         differences: 0,
     };
 
-    // With one case more; where it differs, a line says how.
-    pub(crate) fn with(self, rt: &impl Print, kind: u64, outcome: Outcome) -> io::Result<Tally> {
+    // With one case more, None where it cannot be read. A line says of one that is not right how it went.
+    pub(crate) fn with(
+        self,
+        rt: &impl Print,
+        kind: u64,
+        outcome: Option<Outcome>,
+    ) -> io::Result<Tally> {
         let mut tally = self.counted(kind);
-        if outcome.is_right() {
-            return Ok(tally);
+        let case = tally.cases;
+        match outcome {
+            Some(outcome) if outcome.is_right() => return Ok(tally),
+            Some(outcome) => print_difference(rt, case, outcome)?,
+            None => println!(rt; "case {case} cannot be read")?,
         }
-        tally.differences = wrapping_add_u64(tally.differences, 1);
-        print_difference(rt, tally.cases, outcome)?;
+        tally.differences = tally.differences.wrapping_add(1);
         Ok(tally)
     }
 
     // A case of no kind that there is counts among all cases alone.
     fn counted(self, kind: u64) -> Tally {
         let mut tally = self;
-        tally.cases = wrapping_add_u64(tally.cases, 1);
-        let k = kind as usize;
-        if KINDS <= k {
-            return tally;
+        tally.cases = tally.cases.wrapping_add(1);
+        if let Some(count) = tally.of_kind.get_mut(kind as usize) {
+            *count = count.wrapping_add(1);
         }
-        let count = tally.of_kind[k];
-        tally.of_kind[k] = wrapping_add_u64(count, 1);
         tally
     }
 
     pub(crate) fn print(self, rt: &impl Print) -> io::Result<()> {
-        text::line(rt, b"union ", self.of_kind[1])?;
-        text::line(rt, b"fast decision ", self.of_kind[2])?;
-        text::line(rt, b"recovery choice, the Rust's counts ", self.of_kind[3])?;
-        text::line(rt, b"recovery choice, the paper's count ", self.of_kind[4])?;
-        text::line(rt, b"identify after refreshes ", self.of_kind[5])?;
-        text::line(rt, b"handlers in a run ", self.of_kind[6])?;
-        text::number(rt, self.cases)?;
-        text::word(rt, b" cases, ")?;
-        text::number(rt, self.differences)?;
-        text::word(rt, b" differences\n")
+        let [_, union, fast, rust, paper, identify, runs] = self.of_kind;
+        println!(rt; "union {union}")?;
+        println!(rt; "fast decision {fast}")?;
+        println!(rt; "recovery choice, the Rust's counts {rust}")?;
+        println!(rt; "recovery choice, the paper's count {paper}")?;
+        println!(rt; "identify after refreshes {identify}")?;
+        println!(rt; "handlers in a run {runs}")?;
+        println!(rt; "{} cases, {} differences", self.cases, self.differences)
     }
 }
 
 fn print_difference(rt: &impl Print, case: u64, outcome: Outcome) -> io::Result<()> {
-    text::word(rt, b"case ")?;
-    text::number(rt, case)?;
-    if outcome.next == LOST {
-        return text::word(rt, b" cannot be read\n");
+    let Outcome {
+        answers,
+        listed,
+        ..
+    } = outcome;
+    if answers == listed {
+        println!(rt; "case {case} differs: answers {answers} with other contents")
+    } else {
+        println!(rt; "case {case} differs: answers {answers}, the list has {listed}")
     }
-    text::word(rt, b" differs: answers ")?;
-    text::number(rt, outcome.answers)?;
-    if outcome.answers == outcome.listed {
-        return text::word(rt, b" with other contents\n");
-    }
-    text::line(rt, b", the list has ", outcome.listed)
 }
