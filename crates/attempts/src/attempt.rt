@@ -13,7 +13,8 @@ use order::order::write;
 use table::place::Place;
 use table::table::Table;
 
-// What an attempt answers, the table after it, and how many slots have run.
+// What an attempt answers, the table after it, and how many slots have run. No Result: the table stands beside a refusal too
+// (`attempt_of`).
 #[derive(Clone, Copy)]
 pub struct Attempted {
     pub answer: Answer,
@@ -47,7 +48,9 @@ pub fn attempt(table: Table, at: Place, order: &mut [u8]) -> Attempted
     attempt_from(table, at, order, 0)
 }
 
-// The same where nothing is to be refused, and written on from a place of the list.
+// The same where nothing is to be refused, and written on from a place of the list. That the table is within the bounds and the
+// list has room is asked here and above, and no type says it: docs/ENTRIES.md names it for any caller, of whom a type would ask
+// more.
 pub fn attempt_from(table: Table, at: Place, order: &mut [u8], from: usize) -> Attempted
     requires table_value { table_fits table ≡ true }
     requires row_bound { at.row < 7 }

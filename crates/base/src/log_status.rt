@@ -11,7 +11,7 @@ pub enum LogStatus {
     Committed,
 }
 
-// Whether a number stands for a log status: the test where only the answer is asked for.
+// Whether a number stands for a log status. It stays beside try_from: docs/ENTRIES.md names it.
 pub fn is_status(number: u64) -> bool
     ensures { result ≡ is_status number }
 {
@@ -19,7 +19,8 @@ pub fn is_status(number: u64) -> bool
 }
 
 impl LogStatus {
-    // The one that a number stands for; of a number that stands for none it is Committed, so that it never fails.
+    // The one that a number stands for; of a number that stands for none it is Committed. It stays beside try_from: `status_of`
+    // says what it is of every number, and docs/ENTRIES.md names it.
     #[tactic(auto, unfolding(crate::specs::LogStatus::status_of))]
     pub fn of(number: u64) -> LogStatus
         ensures { result ≡ status_of number }

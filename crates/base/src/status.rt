@@ -12,7 +12,7 @@ pub enum Status {
 }
 
 impl Status {
-    // Its place in the rising order, from 0 for Null.
+    // Its place in the rising order, from 0 for Null. No derived order: the image has this number, and `rank_of` speaks of it.
     pub fn rank(self) -> u8
         ensures { result ≡ rank_of self }
     {

@@ -28,8 +28,8 @@ pub fn refusal(table: Table, at: Place) -> Result<(), Refusal>
     of_place(fits(&table), table.config.n, at)
 }
 
-// The same, of what is known of a table: whether it is within the bounds, and how many rows it has. A struct of the two
-// would be made only to be taken apart.
+// The same, of what is known of a table: whether it is within the bounds, and how many rows it has. The two apart, as
+// docs/ENTRIES.md names it; a view has both among others.
 #[tactic(auto, unfolding(base::specs::Refusals::first_refusal))]
 pub fn of_place(within: bool, n: usize, at: Place) -> Result<(), Refusal>
     ensures { refused_number result ≡ first_refusal (place_tests_in within n at) }

@@ -5,7 +5,7 @@ ghost use Rattle.bounds.specs.Highest.{is_held, highest_of};
 use super::shown::Shown;
 use deps::sets::DepSet;
 
-// The greatest over the set's slots that the table holds, 0 if none.
+// The greatest over the set's slots that the table holds, 0 if none (`highest_of`).
 pub fn highest<S: Shown>(shown: &S, set: DepSet) -> u32
     ensures { result ≡ highest_of (S.table shown.now) set }
 {

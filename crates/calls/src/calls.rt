@@ -38,7 +38,9 @@ pub enum Handler {
     Lead,
 }
 
-// known: whether every byte of the event stands for something.
+// known: whether every byte of the event stands for something; apart from the proposal, and one proposal for all six, as `on_image`
+// and `handled_by` take them. That the image has its width and is known is asked of each function below and no type says it: C
+// lends slices of any length, and docs/ENTRIES.md names these functions for them.
 #[tactic(auto, unfolding(crate::specs::Calls::on_image, crate::specs::Calls::call_long))]
 pub fn call(
     handler: Handler,
@@ -95,7 +97,8 @@ pub fn settle_at(change: Change, at: Place, image: &mut [u8], out: &mut [u8]) ->
     change.answer.number()
 }
 
-// The answer's number, with the table and the output written: a refusal writes nothing.
+// The answer's number, with the table and the output written: a refusal writes nothing. Beside the one above, since what is
+// written there is a change and here a whole table.
 pub fn settle(outcome: Outcome, image: &mut [u8], out: &mut [u8]) -> u64
     requires image_len { length image.old ≡ image_width }
     requires output_width_in_bounds { output_width ≤ length out.old }
@@ -110,6 +113,7 @@ pub fn settle(outcome: Outcome, image: &mut [u8], out: &mut [u8]) -> u64
     outcome.answer.number()
 }
 
+// docs/ENTRIES.md names it.
 pub fn is_refused(answer: Answer) -> bool
     ensures { result ≡ is_refused answer }
 {

@@ -18,6 +18,7 @@ pub enum Extent {
     Keys,
 }
 
+// Extent and slot apart, and no enum with the slot in its cases: `changed` and `changed_table` take them so.
 #[derive(Clone, Copy)]
 pub struct Change {
     pub slot: Slot,
@@ -64,7 +65,8 @@ impl Change {
 }
 
 impl Extent {
-    // The four in order: what has one has those before it.
+    // The four in order: what has one has those before it. By cases, since a derived order would have to be tied to `reach_of`
+    // again.
     pub fn has_nulls(self) -> bool
         ensures { result ≡ leb 1 (reach_of self) }
     {

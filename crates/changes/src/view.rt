@@ -16,7 +16,7 @@ use table::place::Place;
 // that a definition makes, as `view_with`, would have to hold a proof of it.
 #[derive(Clone, Copy)]
 pub struct View {
-    pub slot: Slot, // at the message's place; a null slot where the table has none
+    pub slot: Slot, // at the message's place; where the table has none a null slot (`slot_seen`), with which a handler goes on
     pub config: Config,
     pub mine: DepSet, // what the message's batch waits for, as the table knows it
     pub highest: u32, // the highest sequence of that set

@@ -3,12 +3,13 @@ ghost use Rattle.std.specs.Prelude.{◌≡◌, ◌≤◌, length};
 ghost use Rattle.choosing.specs.Recovery.{prepare_of, kinds_known, votes_known, choice_decided, choice_code, choice_bytes};
 
 use base::config::Config;
+use base::numbers::size;
 use calls::calls::SHORT;
 use deciding::answers::{answered, unknown};
 use octets::known::each_below;
 use octets::marks::marks_at;
 use passed::sevens::{batches_at, sets_at, statuses_at, words_at};
-use passed::slices::{marks_known, size};
+use passed::slices::marks_known;
 use recovering::recovery::{Prepare, Rule, Votes, choice};
 use votes::answer::Decision;
 use votes::contents::entries;
@@ -23,7 +24,7 @@ pub fn prepare(row: u64, highest: u64, default: u64) -> Prepare
     }
 }
 
-// By either rule, on slices of any length.
+// By either rule, on slices of any length. Beside the fast decision's, since slices and lengths are others.
 pub fn answer(
     rule: Rule,
     config: Config,

@@ -7,7 +7,7 @@ ghost use Rattle.deciding.specs.Codes.{code_of};
 ghost use Rattle.deciding.specs.Answers.{contents_width, contents_bytes, out_of};
 
 use super::codes::code;
-use base::refusals;
+use base::refusals::Refusal;
 use layout::batches::put_batch;
 use layout::numbers::put_word;
 use octets::sets::put_set;
@@ -19,11 +19,12 @@ pub fn unknown() -> Decision
     ensures { result ≡ Refused outside_bounds }
 {
     Decision::Refused {
-        number: refusals::OUTSIDE_BOUNDS,
+        number: Refusal::OutsideBounds.number(),
     }
 }
 
-// Sequence and dependency set; the batch too where the whole contents are wanted.
+// Sequence and dependency set; the batch too where the whole contents are wanted: a flag, of which `contents_width` and
+// `contents_bytes` speak.
 fn put_contents(out: &mut [u8], whole: bool, contents: Contents)
     requires { contents_width whole ≤ length out.old }
     ensures { out.new ≡ lay out.old 0 (contents_bytes whole contents) }

@@ -14,7 +14,8 @@ use votes::contents::Contents;
 use votes::holder::decides;
 use votes::{contents, identical};
 
-// Replies by replica: whether there is one, its sequence, its dependency columns. Silent replicas by their marks.
+// Replies by replica: whether there is one, its sequence, its dependency columns. Silent replicas by their marks. Marks and values
+// apart, and no Option by replica: `fast_answer` and the laws speak of these lists.
 pub fn decision(
     config: Config,
     avoided: bool,

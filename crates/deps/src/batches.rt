@@ -95,7 +95,7 @@ impl Batch {
         self.count <= 4 && self.requests().iter().all(|request| request.kind.fits())
     }
 
-    // Whether the two have one count and the same requests.
+    // Whether the two have one count and the same requests: `==`, by the name that docs/ENTRIES.md has.
     pub fn same(self, other: Batch) -> bool
         ensures { result ≡ same_batch self other }
     {

@@ -2,8 +2,8 @@
 ghost use Rattle.std.specs.Prelude.{◌≡◌, ◌<◌};
 ghost use Rattle.deps.specs.Sets.{dep_of, dep_fits, set_fits, union_of, raised_to, same_set};
 
-// Per row 0 for nothing and c + 1 for the column c, as the image that C holds has it and not an Option: the greater number is
-// the greater column, or the only one.
+// Per row 0 for nothing and c + 1 for the column c, and no Option: `dep_of` and the laws speak of this number, and the image that
+// C holds has it. The greater number is the greater column, or the only one.
 #[derive(Clone, Copy, Debug, PartialEq, Eq)]
 pub struct DepSet {
     pub cols: [u8; 7],
@@ -43,7 +43,7 @@ impl DepSet {
         out
     }
 
-    // Whether the two sets are equal.
+    // Whether the two sets are equal: `==`, by the name that docs/ENTRIES.md has.
     pub fn same(self, other: DepSet) -> bool
         ensures { result ≡ same_set self other }
     {

@@ -94,7 +94,7 @@ fn put_groups(out: &mut [u8], at: usize, number: u64, left: usize) -> usize
         return at;
     }
     if number < 128 {
-        out[at] = number as u8;
+        out[at] = number as u8; // proved to fit; a TryFrom would answer an Err that never comes
         return at + 1;
     }
     out[at] = (number % 128 + 128) as u8;

@@ -41,6 +41,8 @@ pub fn rows_at(s: &[u8], at: usize) -> [usize; 7]
     array::from_fn(|i| usize::from(s[at + i]))
 }
 
+// This loop, those of the keys and of the slots, that of the marks in slot_bytes and that of the requests in layout differ in what
+// they write of an element. One over a closure would be a line no shorter at each, and take a clause for what the closure writes.
 pub fn put_rows(out: &mut [u8], at: usize, rows: [usize; 7])
     requires { at + 7 ≤ length out.old }
     ensures { out.new ≡ lay out.old at (rows_bytes rows) }

@@ -9,7 +9,8 @@ use slots::slot::Slot;
 use std::array;
 use table::table::Table;
 
-// How many bytes an image has.
+// How many bytes an image has. Each function below asks for this length, and no type says it: C lends slices of any length, and
+// docs/ENTRIES.md names these functions for them.
 pub const WIDTH: usize = 33618;
 
 // Whether every slot's bytes stand for something, those past a row's length too.

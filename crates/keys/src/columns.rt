@@ -16,6 +16,7 @@ impl Keys {
         cols: [[0; 7]; 256],
     };
 
+    // This and the next say what the field says: they stay, since docs/ENTRIES.md names them.
     pub fn of(cols: [[u8; 7]; 256]) -> Keys
         ensures { result ≡ keys_of cols }
     {
@@ -28,7 +29,7 @@ impl Keys {
         self.cols
     }
 
-    // The constant, for callers that take a function.
+    // The constant, by the name that README.md and docs/ENTRIES.md have.
     pub fn empty() -> Keys
         ensures { result ≡ empty_keys }
     {

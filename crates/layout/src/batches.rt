@@ -8,7 +8,8 @@ use super::numbers::{byte, put_byte, put_short, put_word, short, word};
 use deps::batches::{Batch, Kind, Request};
 use std::array;
 
-// A byte with no meaning is read as other: who must refuse it tests it first.
+// A byte with no meaning is read as other: who must refuse it tests it first. No TryFrom: `batch_at` cannot fail. The bytes of what
+// a kind has none of are 0, as the layout has them (docs/IMAGE.md), so there is no Option here.
 fn kind_of(b: u8, key: u16, value: u64) -> Kind
     ensures { result ≡ kind_of b key value }
 {

@@ -1,4 +1,5 @@
-// Numbers in a byte slice, low byte first.
+// Numbers in a byte slice, low byte first. All functions of bytes take a slice and a place in it, and ask for room from there on: so
+// docs/ENTRIES.md names them, and their definitions speak of what lies from the place on.
 ghost use Rattle.std.specs.Prelude.{◌≡◌, [], ◌∷◌, ◌+◌, ◌≤◌, min, length, drop};
 ghost use Rattle.layout.specs.Numbers.{word_of, word_bytes, short_of, short_bytes, lay};
 
@@ -41,7 +42,7 @@ pub fn put_byte(out: &mut [u8], at: usize, b: u8)
     out[at] = b;
 }
 
-// A number as one byte. One that no byte holds is written as 255, which nothing within the bounds has.
+// A number as one byte. One that no byte holds is written as 255 (`min v 255`), which nothing within the bounds has.
 pub fn byte(v: usize) -> u8
     ensures { result ≡ min v 255 }
 {

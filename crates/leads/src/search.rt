@@ -1,7 +1,9 @@
 // The search: from a slot to its dependencies, and from each dependency to its slot.
 //
 // What is seen is a prefix of every row, since each slot leads to those before it in its row: a set whose column in a row is
-// the last that is seen there. The dependency sets of all slots are lent, seven numbers each, 0 for nothing, c + 1 for column c.
+// the last that is seen there. The dependency sets of all slots are lent, seven numbers each, 0 for nothing, c + 1 for column c:
+// so `Valid` and `frontier` speak of them. That they are valid is asked in each contract, and no type: `reach` is for any caller's
+// numbers (docs/ENTRIES.md), of whom a type would ask more. Row and column go apart, since `Place` stands above, in table.
 // What is seen is lent too and grows in place: handed on by value, its seven bytes would be written and read again in every call.
 ghost use Rattle.std.specs.Prelude.{◌≡◌, ◌+◌, ◌*◌, ◌≤◌, ◌<◌, length};
 ghost use Rattle.leads.specs.Depends.{Valid};

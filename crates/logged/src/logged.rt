@@ -16,7 +16,7 @@ use table::table::Table;
 // How many entries an order list has to have: one for every slot.
 const ENTRIES: usize = 224;
 
-// What a log event does, and how many slots have run.
+// What a log event does, and how many slots have run, also none beside a refusal (`logged_of`).
 #[derive(Clone, Copy)]
 pub struct LogOutcome {
     pub outcome: Outcome,

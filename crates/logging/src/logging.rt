@@ -59,7 +59,8 @@ pub fn logged_on(
     }
 }
 
-// Logged PreAccepting or Accepting: one slot is looked at, and no slot runs, so no table is read.
+// Logged PreAccepting or Accepting: one slot is looked at, and no slot runs, so no table is read. Image, order, ran and out are lent
+// by C, each with its length.
 fn replied_on(reply: Reply, at: Place, image: &mut [u8], ran: &mut [u8], out: &mut [u8]) -> u64
     requires image_len { length image.old ≡ image_width }
     requires image_value { image_known image.old ≡ true }

@@ -11,7 +11,7 @@ pub fn mark_of(b: u8) -> bool
     b != 0
 }
 
-// A byte with no meaning is read as null: who must refuse it tests it first.
+// A byte with no meaning is read as null: who must refuse it tests it first. No TryFrom: it is public, and cannot fail.
 pub fn status_of(b: u8) -> Status
     ensures { result ≡ status_of b }
 {
@@ -24,6 +24,7 @@ pub fn status_of(b: u8) -> Status
     }
 }
 
+// This and the like, of sets, rows, keys, slots and in passed, are a line each: what differs is the element that is read.
 pub fn marks_at(s: &[u8], at: usize) -> [bool; 7]
     requires { at + 7 ≤ length s.now }
     ensures { result ≡ marks_at (drop at s.now) }

@@ -6,6 +6,7 @@ use super::output::Output;
 use base::answer::Answer;
 use table::table::Table;
 
+// No Result: the table stands beside a refusal too (`outcome_of`).
 #[derive(Clone, Copy)]
 pub struct Outcome {
     pub answer: Answer,

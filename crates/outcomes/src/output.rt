@@ -12,7 +12,7 @@ use table::place::Place;
 // to self.
 #[derive(Clone, Copy)]
 pub enum What {
-    Nothing,
+    Nothing, // what an output has past its records (`output_of`)
     Log,
     CommitNotice,
     PreAcceptReply { to: usize },

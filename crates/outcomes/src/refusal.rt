@@ -1,5 +1,5 @@
 // The first refusal, in the order of their numbers. Asked of what is known of a table: whether it is within the bounds, and how
-// many rows it has. These two of a view's fields are passed apart: a struct of them would be made only to be taken apart.
+// many rows it has. The two go apart, as docs/ENTRIES.md names it; a view has both among others.
 ghost use Rattle.std.specs.Prelude.{◌≡◌, ◌++◌};
 ghost use Rattle.base.specs.Refusals.{first_refusal, refused_number};
 ghost use Rattle.outcomes.specs.Refusal.{message_tests_in, contents_tests_in, lead_tests_in};

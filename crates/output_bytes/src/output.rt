@@ -12,6 +12,7 @@ use table::place::Place;
 // How many bytes an output takes.
 pub const WIDTH: usize = 291;
 
+// This and the next two are fields of the layout that C reads (docs/IMAGE.md): 0 where what is put out has none.
 fn what_byte(what: What) -> u8
     ensures { result ≡ what_byte what }
 {

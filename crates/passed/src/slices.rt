@@ -3,14 +3,8 @@ ghost use Rattle.std.specs.Prelude.{◌≡◌, ◌≤◌, length};
 ghost use Rattle.passed.specs.Slices.{marks_known, config_of};
 
 use base::config::Config;
+use base::numbers::size;
 use octets::known::each_below;
-
-// A size has 64 bits, so every number is one: std has no From here, and its TryFrom answers a Result that never is an Err.
-pub fn size(number: u64) -> usize
-    ensures { result ≡ number }
-{
-    number as usize
-}
 
 pub fn config(n: u64, own: u64, simple: u64, sup: u64) -> Config
     ensures { result ≡ config_of n own simple sup }

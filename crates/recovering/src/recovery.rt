@@ -26,7 +26,8 @@ pub struct Prepare {
     pub default: u64,
 }
 
-// Votes by replica: whether there is one, its status, and what it says.
+// Votes by replica: whether there is one, its status, and what it says. Three arrays, and no Option by replica: `answer_by` and the
+// laws speak of these lists. Acks, which are marks of others, go beside them.
 #[derive(Clone, Copy)]
 pub struct Votes {
     pub voted: [bool; 7],
@@ -147,7 +148,7 @@ impl Votes {
         std::array::from_fn(|r| self.is_vote(r, Status::PreAccepting) && r != row)
     }
 
-    // The highest-numbered replica with a vote of the status: std's lemmas say nothing of a search from a range's end.
+    // The highest-numbered replica with a vote of the status.
     fn highest(&self, wanted: Status) -> Option<usize>
         ensures { result ≡ highest_vote wanted self.now.voted self.now.statuses }
     {

@@ -10,7 +10,8 @@ use base::marks;
 use base::refusals::{Refusal, SEQUENCE_LIMIT};
 use votes::contents::Contents;
 
-// Ok where nothing is to be refused. Whether every replica named is below N is the caller's to say.
+// Ok where nothing is to be refused. Whether every replica named is below N is the caller's to say. Marks and entries apart, as
+// `refusal_of` takes them.
 pub fn refusal(
     config: Config,
     named: bool,

@@ -7,8 +7,9 @@ use base::status::Status;
 use deps::batches::Batch;
 use deps::sets::DepSet;
 
-// A slot that is led has a leader's accept marks; of one that is not they say nothing. Wide fields first: a slot takes 168
-// bytes so, and a table of 224 stays below 40,000.
+// A slot that is led has a leader's accept marks; of one that is not they say nothing. They are no Option beside led: a store
+// keeps both (`stored_with`), and the image has both. Wide fields first: a slot takes 168 bytes so, and a table of 224 stays
+// below 40,000.
 #[derive(Clone, Copy)]
 pub struct Slot {
     pub ballot: u64,
@@ -16,7 +17,7 @@ pub struct Slot {
     pub seq: u32, // the limit of a sequence is that of its type
     pub status: Status,
     pub deps: DepSet,
-    pub source: u8, // 0 for none, p + 1 for the peer p: the byte of the image that C holds, and not an Option
+    pub source: u8, // 0 for none, p + 1 for the peer p, and no Option: `heard_from` and `slot_fits` speak of it
     pub led: bool,
     pub marks: [bool; 7],
 }

@@ -2,6 +2,9 @@
 ghost use Rattle.std.specs.Prelude.{◌≡◌, true, ◌&&◌, ltb, ◌<◌, get_or};
 ghost use Rattle.table.specs.Place.{index_of};
 
+// Of any row and column, and so with no invariant: whether a place has a slot is asked of those past the rows too
+// (`Table::holds`), and a message may come with one. That it lies inside is asked by who reads a slot there, and no type of its
+// own says it: such functions are public, and a type would ask more of their callers.
 #[derive(Clone, Copy, Debug, PartialEq, Eq)]
 pub struct Place {
     pub row: usize,

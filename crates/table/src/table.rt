@@ -10,7 +10,8 @@ use deps::sets::DepSet;
 use keys::columns::Keys;
 use slots::slot::Slot;
 
-// The slot of row r and column c stands at 32 * r + c. What stands past a row's length is nobody's.
+// The slot of row r and column c stands at 32 * r + c. What stands past a row's length is nobody's. Fixed arrays beside their
+// lengths, and no Vec: there is no heap, and `table_bytes` has them so.
 #[derive(Clone, Copy)]
 pub struct Table {
     pub config: Config,
@@ -38,7 +39,7 @@ impl Table {
         }
     }
 
-    // Whether the place has a slot.
+    // Whether the place has a slot. docs/ENTRIES.md names it; `Shown` has the same of a table in bytes.
     #[tactic(auto, unfolding(crate::specs::Table::holds))]
     pub fn holds(self, at: Place) -> bool
         ensures { result ≡ holds self at }
@@ -93,7 +94,7 @@ impl Table {
         out
     }
 
-    // The set that the batch waits for, as this table knows it.
+    // The set that the batch waits for, as this table knows it. docs/ENTRIES.md names it.
     pub fn identify(self, batch: Batch) -> DepSet
         ensures { result ≡ identify_of self.keys batch }
     {

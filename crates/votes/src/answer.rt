@@ -5,7 +5,7 @@ ghost use Rattle.votes.specs.Answer.{goes_on_with};
 use super::contents::Contents;
 
 // What to do, and what to go on with: there is nothing to go on with in a wait or a refusal. A refusal is a number and no
-// Refusal: what is promised of it (`unless_refused`, `fast_refused`, `choice_refused`) is promised of every number.
+// Refusal: `answered`, by which C is told, takes every number, and a type would ask more of who calls it.
 #[derive(Clone, Copy)]
 pub enum Decision {
     Wait,

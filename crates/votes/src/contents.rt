@@ -27,7 +27,8 @@ impl Contents {
         batch: Batch::NO_OP,
     };
 
-    // Whether sequence, dependencies and batch are equal. No derived ==: of a batch only the requests that it holds are compared.
+    // Whether sequence, dependencies and batch are equal. A derived == is this test too, but it says so in words of its own: that they
+    // are those of `same_contents` was tried and left open, where equal entries are counted.
     pub(crate) fn same(self, other: Contents) -> bool
         ensures { result ≡ same_contents self other }
     {
@@ -46,7 +47,7 @@ impl Contents {
     }
 }
 
-// What each replica says.
+// What each replica says, of three arrays as the host passes them (docs/ENTRIES.md).
 pub fn entries(seqs: [u64; 7], deps: [[u8; 7]; 7], batches: [Batch; 7]) -> [Contents; 7]
     ensures { result ≡ entries_of seqs deps batches }
 {

@@ -18,7 +18,7 @@ pub struct Group {
     pub left: [bool; 7],
 }
 
-// A mark for each entry: it is taken away with the first entry that is equal, and not counted again. The marks that the loop
+// A mark for each entry, beside the entries, as `identical_of` takes them: it is taken away with the first entry that is equal, and not counted again. The marks that the loop
 // tests change in it, so it goes over the replicas and not over the marks.
 pub fn count_identical(entries: [Contents; 7], listed: [bool; 7], enough: usize) -> Identical
     ensures { result ≡ identical_of entries listed enough }
