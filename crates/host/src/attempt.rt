@@ -9,7 +9,7 @@ ghost use Rattle.std.specs.Prelude.{◌≡◌};
 ghost use Rattle.attempting.specs.Attempting.{attempt_call};
 
 use attempting::attempting::attempt_on;
-use passed::slices::size;
+use base::numbers::size;
 
 // An entry of the order list is 32 * row + column; the first is the first that ran.
 #[inline(never)]

@@ -8,8 +8,8 @@
 ghost use Rattle.std.specs.Prelude.{◌≡◌};
 ghost use Rattle.logging.specs.Logging.{log_call};
 
+use base::numbers::size;
 use logging::logging::logged_on;
-use passed::slices::size;
 
 // status: 1 pre-accepting, 2 accepting, 3 committed. An entry of the order list is 32 * row + column; the first is the first
 // that ran.

@@ -13,7 +13,7 @@ ghost use Rattle.handlers.specs.Lead.{lead_slot};
 ghost use Rattle.messaging.specs.Messages.{open_code, open_image, message_of, proposal_call, plain_call};
 
 use calls::calls::Handler;
-use messaging::messages::{ask, propose};
+use messaging::messages::{ask, message, propose};
 use messaging::opening::open_on;
 
 // An empty table of this population, own number, simple and super quorum. Answers 100, and the image is written; 0 where it
@@ -26,6 +26,7 @@ pub fn nj_open(n: u64, own: u64, simple: u64, sup: u64, image: &mut [u8]) -> u64
     open_on(n, own, simple, sup, image)
 }
 
+// A function for each name that C links: this one and the next two differ in the handler alone, and so do the two after them.
 #[inline(never)]
 pub fn nj_pre_accept(
     image: &mut [u8],
@@ -40,16 +41,8 @@ pub fn nj_pre_accept(
     ensures table { image.new ≡ (proposal_call pre_accept (message_of peer row col ballot) contents.now image.old out.old).image }
     ensures bytes { out.new ≡ (proposal_call pre_accept (message_of peer row col ballot) contents.now image.old out.old).out }
 {
-    propose(
-        Handler::PreAccept,
-        peer,
-        row,
-        col,
-        ballot,
-        contents,
-        image,
-        out,
-    )
+    let m = message(peer, row, col, ballot);
+    propose(Handler::PreAccept, m, contents, image, out)
 }
 
 #[inline(never)]
@@ -66,16 +59,8 @@ pub fn nj_accept(
     ensures table { image.new ≡ (proposal_call accept (message_of peer row col ballot) contents.now image.old out.old).image }
     ensures bytes { out.new ≡ (proposal_call accept (message_of peer row col ballot) contents.now image.old out.old).out }
 {
-    propose(
-        Handler::Accept,
-        peer,
-        row,
-        col,
-        ballot,
-        contents,
-        image,
-        out,
-    )
+    let m = message(peer, row, col, ballot);
+    propose(Handler::Accept, m, contents, image, out)
 }
 
 #[inline(never)]
@@ -92,16 +77,8 @@ pub fn nj_commit_notice(
     ensures table { image.new ≡ (proposal_call commit_notice (message_of peer row col ballot) contents.now image.old out.old).image }
     ensures bytes { out.new ≡ (proposal_call commit_notice (message_of peer row col ballot) contents.now image.old out.old).out }
 {
-    propose(
-        Handler::CommitNotice,
-        peer,
-        row,
-        col,
-        ballot,
-        contents,
-        image,
-        out,
-    )
+    let m = message(peer, row, col, ballot);
+    propose(Handler::CommitNotice, m, contents, image, out)
 }
 
 #[inline(never)]
@@ -117,7 +94,8 @@ pub fn nj_accept_reply(
     ensures table { image.new ≡ (plain_call (λ t. accept_reply t (message_of peer row col ballot)) image.old out.old).image }
     ensures bytes { out.new ≡ (plain_call (λ t. accept_reply t (message_of peer row col ballot)) image.old out.old).out }
 {
-    ask(Handler::AcceptReply, peer, row, col, ballot, image, out)
+    let m = message(peer, row, col, ballot);
+    ask(Handler::AcceptReply, m, image, out)
 }
 
 #[inline(never)]
@@ -133,7 +111,8 @@ pub fn nj_exp_prepare(
     ensures table { image.new ≡ (plain_call (λ t. exp_prepare t (message_of peer row col ballot)) image.old out.old).image }
     ensures bytes { out.new ≡ (plain_call (λ t. exp_prepare t (message_of peer row col ballot)) image.old out.old).out }
 {
-    ask(Handler::ExpPrepare, peer, row, col, ballot, image, out)
+    let m = message(peer, row, col, ballot);
+    ask(Handler::ExpPrepare, m, image, out)
 }
 
 // This copy leads the slot from now on. It puts out nothing.
@@ -143,5 +122,5 @@ pub fn nj_lead(image: &mut [u8], row: u64, col: u64, out: &mut [u8]) -> u64
     ensures table { image.new ≡ (plain_call (λ t. lead_slot t (place_of row col)) image.old out.old).image }
     ensures bytes { out.new ≡ (plain_call (λ t. lead_slot t (place_of row col)) image.old out.old).out }
 {
-    ask(Handler::Lead, 0, row, col, 0, image, out)
+    ask(Handler::Lead, message(0, row, col, 0), image, out)
 }

@@ -40,7 +40,7 @@ pub fn nj_rust_choice(
     answer(Rule::Rust, c, p, acks, votes, out)
 }
 
-// The same by the paper's counts.
+// The same by the paper's counts: two names that C links, for one choice under two rules.
 #[inline(never)]
 pub fn nj_paper_choice(
     n: u64,

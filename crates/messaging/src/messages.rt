@@ -3,6 +3,7 @@ ghost use Rattle.std.specs.Prelude.{◌≡◌, ◌≤◌, length};
 ghost use Rattle.calls.specs.Calls.{handled_by};
 ghost use Rattle.messaging.specs.Messages.{message_of, proposal_of, alone, proposal_call, plain_call};
 
+use base::numbers::size;
 use calls::calls::{Handler, SHORT, call};
 use deps::batches::Batch;
 use deps::sets::DepSet;
@@ -10,11 +11,11 @@ use layout::batches::batch_at;
 use layout::numbers::word;
 use octets::sets::set_at;
 use outcomes::message::{Message, Proposal};
-use passed::slices::size;
 use slot_bytes::contents::kinds_known;
 use table::place::Place;
 
-fn message(peer: u64, row: u64, col: u64, ballot: u64) -> Message
+// The numbers of a message, as the host passes them.
+pub fn message(peer: u64, row: u64, col: u64, ballot: u64) -> Message
     ensures { result ≡ message_of peer row col ballot }
 {
     Message {
@@ -23,7 +24,7 @@ fn message(peer: u64, row: u64, col: u64, ballot: u64) -> Message
             row: size(row),
             col: size(col),
         },
-        ballot: ballot,
+        ballot,
     }
 }
 
@@ -32,7 +33,7 @@ fn plain(message: Message) -> Proposal
     ensures { result ≡ alone message }
 {
     Proposal {
-        message: message,
+        message,
         seq: 0,
         deps: DepSet::EMPTY,
         batch: Batch::NO_OP,
@@ -43,53 +44,38 @@ fn proposal_at(message: Message, contents: &[u8]) -> Proposal
     requires { 124 ≤ length contents.now }
     ensures { result ≡ proposal_of message contents.now }
 {
-    let deps = set_at(contents, 8);
-    let batch = batch_at(contents, 15);
     Proposal {
-        message: message,
+        message,
         seq: word(contents, 0),
-        deps: deps,
-        batch: batch,
+        deps: set_at(contents, 8),
+        batch: batch_at(contents, 15),
     }
 }
 
 // A handler of proposals.
 pub fn propose(
     handler: Handler,
-    peer: u64,
-    row: u64,
-    col: u64,
-    ballot: u64,
+    message: Message,
     contents: &[u8],
     image: &mut [u8],
     out: &mut [u8],
 ) -> u64
-    ensures result { result ≡ (proposal_call (λ t p. handled_by handler p t) (message_of peer row col ballot) contents.now image.old out.old).code }
-    ensures table { image.new ≡ (proposal_call (λ t p. handled_by handler p t) (message_of peer row col ballot) contents.now image.old out.old).image }
-    ensures bytes { out.new ≡ (proposal_call (λ t p. handled_by handler p t) (message_of peer row col ballot) contents.now image.old out.old).out }
+    ensures result { result ≡ (proposal_call (λ t p. handled_by handler p t) message contents.now image.old out.old).code }
+    ensures table { image.new ≡ (proposal_call (λ t p. handled_by handler p t) message contents.now image.old out.old).image }
+    ensures bytes { out.new ≡ (proposal_call (λ t p. handled_by handler p t) message contents.now image.old out.old).out }
 {
     if contents.len() < 124 {
         return SHORT;
     }
     let known = kinds_known(contents, 0);
-    let m = message(peer, row, col, ballot);
-    call(handler, known, proposal_at(m, contents), image, out)
+    call(handler, known, proposal_at(message, contents), image, out)
 }
 
 // A handler of what is no more than a message, or a place.
-pub fn ask(
-    handler: Handler,
-    peer: u64,
-    row: u64,
-    col: u64,
-    ballot: u64,
-    image: &mut [u8],
-    out: &mut [u8],
-) -> u64
-    ensures result { result ≡ (plain_call (handled_by handler (alone (message_of peer row col ballot))) image.old out.old).code }
-    ensures table { image.new ≡ (plain_call (handled_by handler (alone (message_of peer row col ballot))) image.old out.old).image }
-    ensures bytes { out.new ≡ (plain_call (handled_by handler (alone (message_of peer row col ballot))) image.old out.old).out }
+pub fn ask(handler: Handler, message: Message, image: &mut [u8], out: &mut [u8]) -> u64
+    ensures result { result ≡ (plain_call (handled_by handler (alone message)) image.old out.old).code }
+    ensures table { image.new ≡ (plain_call (handled_by handler (alone message)) image.old out.old).image }
+    ensures bytes { out.new ≡ (plain_call (handled_by handler (alone message)) image.old out.old).out }
 {
-    let m = message(peer, row, col, ballot);
-    call(handler, true, plain(m), image, out)
+    call(handler, true, plain(message), image, out)
 }

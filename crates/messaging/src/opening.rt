@@ -2,11 +2,11 @@
 ghost use Rattle.std.specs.Prelude.{◌≡◌};
 ghost use Rattle.messaging.specs.Messages.{open_code, open_image};
 
+use base::numbers::size;
 use bounds::open::open;
 use calls::calls::{SHORT, is_refused};
 use image::tables;
 use image::tables::put_table;
-use passed::slices::size;
 
 // On an image of any length: a refusal leaves it as it was.
 #[tactic(auto, unfolding(crate::specs::Messages::open_code, crate::specs::Messages::open_image))]
