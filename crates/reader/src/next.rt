@@ -15,7 +15,8 @@ pub struct Next {
     pub rest: usize,
 }
 
-// The event at a place, or the refusal that is met there. n is the population.
+// The event at a place, or the refusal that is met there. n is the population, at most 7: docs/ENTRIES.md names this for any n
+// that is shown to be, of which a type would ask more.
 #[tactic(auto, using(groups::proofs::ToldLaws::handed_on), unfolding(crate::specs::Next::next_at))]
 pub fn next_at(trace: &[u8], at: usize, n: usize) -> Result<Next, Refusal>
     requires { n ≤ 7 }

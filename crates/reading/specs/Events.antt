@@ -2,20 +2,15 @@
 use Rattle.std.specs.Prelude.{List, ℕ}
 use Rattle.base.specs.declared.config.Config.{Config}
 use Rattle.bounds.specs.Open.{config_of}
-use Rattle.deps.specs.Sets.{empty_set}
-use Rattle.deps.specs.Batches.{no_op}
-use Rattle.table.specs.declared.place.Place.{Place}
-use Rattle.outcomes.specs.declared.message.Message.{Message}
 use Rattle.outcomes.specs.declared.message.Proposal.{Proposal}
 use Rattle.proposing.specs.declared.proposals.Phase.{Phase}
 use Rattle.proposing.specs.declared.proposals.Phase.TheVariants as Phases
 use Rattle.base.specs.LogStatus.{status_of}
-use Rattle.base.specs.declared.log_status.LogStatus.{LogStatus}
-use Rattle.base.specs.declared.log_status.LogStatus.TheVariants as Statuses
 use Rattle.steps.specs.Calls.{Call, propose, reply, prepare, log, try, lead_at, tag_of}
 use Rattle.steps.specs.declared.event.Tag.{Tag}
 use Rattle.steps.specs.declared.event.Tag.TheVariants.{PreAccept, Accept, CommitNotice, AcceptReply, ExpPrepare, Logged, Attempt, Lead}
 use Rattle.steps.specs.declared.event.Event.{Event}
+use Rattle.steps.specs.declared.event.Event.TheVariants as Events
 use Rattle.groups.specs.Cursor.{Numbers, numbers_from, number_from, number_within}
 use Rattle.groups.specs.Numbers.{Cursor, Number}
 use Rattle.reading.specs.Fields.{PlaceRead, MessageRead, SetRead, nth, place_from, message_from, set_from}
@@ -104,27 +99,20 @@ event_from n s c = by_tag (tag_of (number_within 1 8 s c).value) n s (number_wit
 
 -- ---- the values of an event
 
-abbrev pub alone : Message → Proposal
-alone m = record { message = m; seq = 0; deps = empty_set; batch = no_op }
-
-abbrev pub from_nobody : Place → Proposal
-from_nobody at = alone (record { peer = 0; at = at; ballot = 0 })
-
 abbrev pub tag_for : Phase → Tag
 tag_for Phases.PreAccept = PreAccept
 tag_for Phases.Accept = Accept
 tag_for Phases.CommitNotice = CommitNotice
 
-abbrev pub event : Tag → Proposal → LogStatus → Event
-event tag p status = record { tag = tag; proposal = p; status = status }
-
 abbrev pub event_of : Call → Event
-event_of (propose phase p) = event (tag_for phase) p Statuses.Committed
-event_of (reply m) = event AcceptReply (alone m) Statuses.Committed
-event_of (prepare m) = event ExpPrepare (alone m) Statuses.Committed
-event_of (log status at) = event Logged (from_nobody at) status
-event_of (try at) = event Attempt (from_nobody at) Statuses.Committed
-event_of (lead_at at) = event Lead (from_nobody at) Statuses.Committed
+event_of (propose Phases.PreAccept p) = Events.PreAccept p
+event_of (propose Phases.Accept p) = Events.Accept p
+event_of (propose Phases.CommitNotice p) = Events.CommitNotice p
+event_of (reply m) = Events.AcceptReply m
+event_of (prepare m) = Events.ExpPrepare m
+event_of (log status at) = Events.Logged at status
+event_of (try at) = Events.Attempt at
+event_of (lead_at at) = Events.Lead at
 
 -- as it is held
 abbrev pub event_in : Found → EventRead

@@ -53,7 +53,7 @@ fn kind(cursor: &mut Cursor) -> Result<Kind, Refusal>
     }
 }
 
-// One that a request does not hold becomes 65,535, which is refused all the same.
+// One that a request does not hold becomes 65,535 (`held_key`), which is refused all the same.
 fn key(number: u64) -> u16
     ensures { result ≡ held_key number }
 {

@@ -2,19 +2,17 @@
 ghost use Rattle.std.specs.Prelude.{◌≡◌, ◌≤◌};
 ghost use Rattle.groups.specs.Told.{standing, Tells, Took};
 ghost use Rattle.reading.specs.Held.{held, held_proposal};
-ghost use Rattle.reading.specs.Events.{header_of, headed, proposal_from, event_from, event_of, alone, from_nobody};
+ghost use Rattle.reading.specs.Events.{header_of, headed, proposal_from, event_from, event_of};
 
 use super::batches::batch;
-use super::fields::{message, place, set, size};
+use super::fields::{message, place, set};
 use base::config::Config;
 use base::log_status::LogStatus;
+use base::numbers::size;
 use base::refusals::Refusal;
-use deps::batches::Batch;
-use deps::sets::DepSet;
 use groups::cursor::Cursor;
-use outcomes::message::{Message, Proposal};
+use outcomes::message::Proposal;
 use steps::event::{Event, Tag};
-use table::place::Place;
 
 // A configuration, and the place of the first event.
 #[derive(Clone, Copy)]
@@ -47,41 +45,23 @@ pub fn event(cursor: &mut Cursor, n: usize) -> Result<Event, Refusal>
     ensures { let x = event_from n cursor.old.trace.now (standing cursor.old.place) in Took cursor.old result cursor.new (event_of (held x.call)) x.cursor }
 {
     let number = cursor.number_within(1, 8)?;
-    let tag = Tag::of(number);
-    match tag {
-        Tag::PreAccept | Tag::Accept | Tag::CommitNotice => {
-            let proposal = proposal(cursor, n)?;
-            Ok(Event {
-                tag,
-                proposal,
-                status: LogStatus::Committed,
-            })
-        }
-        Tag::AcceptReply | Tag::ExpPrepare => {
-            let message = message(cursor)?;
-            Ok(Event {
-                tag,
-                proposal: alone(message),
-                status: LogStatus::Committed,
-            })
-        }
+    // Tag::of and LogStatus::of, which cannot fail: each range has been tested, and what is outside it is refused by the cursor
+    match Tag::of(number) {
+        Tag::PreAccept => Ok(Event::PreAccept(proposal(cursor, n)?)),
+        Tag::Accept => Ok(Event::Accept(proposal(cursor, n)?)),
+        Tag::CommitNotice => Ok(Event::CommitNotice(proposal(cursor, n)?)),
+        Tag::AcceptReply => Ok(Event::AcceptReply(message(cursor)?)),
+        Tag::ExpPrepare => Ok(Event::ExpPrepare(message(cursor)?)),
         Tag::Logged => {
             let at = place(cursor)?;
             let status = cursor.number_within(1, 3)?;
-            Ok(Event {
-                tag,
-                proposal: from_nobody(at),
+            Ok(Event::Logged {
+                at,
                 status: LogStatus::of(status),
             })
         }
-        Tag::Attempt | Tag::Lead => {
-            let at = place(cursor)?;
-            Ok(Event {
-                tag,
-                proposal: from_nobody(at),
-                status: LogStatus::Committed,
-            })
-        }
+        Tag::Attempt => Ok(Event::Attempt(place(cursor)?)),
+        Tag::Lead => Ok(Event::Lead(place(cursor)?)),
     }
 }
 
@@ -100,28 +80,5 @@ fn proposal(cursor: &mut Cursor, n: usize) -> Result<Proposal, Refusal>
         seq,
         deps,
         batch,
-    })
-}
-
-// A message without contents.
-fn alone(message: Message) -> Proposal
-    ensures { result ≡ alone message }
-{
-    Proposal {
-        message,
-        seq: 0,
-        deps: DepSet::EMPTY,
-        batch: Batch::NO_OP,
-    }
-}
-
-// A place alone.
-fn from_nobody(at: Place) -> Proposal
-    ensures { result ≡ from_nobody at }
-{
-    alone(Message {
-        peer: 0,
-        at,
-        ballot: 0,
     })
 }

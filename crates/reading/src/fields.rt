@@ -4,6 +4,7 @@ ghost use Rattle.groups.specs.Told.{standing, Took};
 ghost use Rattle.reading.specs.Fields.{place_from, message_from, set_from};
 ghost use Rattle.reading.specs.Held.{held_dep, held_set};
 
+use base::numbers::size;
 use base::refusals::Refusal;
 use deps::sets::DepSet;
 use groups::cursor::Cursor;
@@ -53,16 +54,9 @@ pub(crate) fn set(cursor: &mut Cursor, n: usize) -> Result<DepSet, Refusal>
     Ok(set)
 }
 
-// One that a set's byte does not hold becomes 255, which is refused all the same.
+// One that a set's byte does not hold becomes 255 (`held_dep`), which is refused all the same.
 fn dependency(number: u64) -> u8
     ensures { result ≡ held_dep number }
 {
     u8::try_from(number).unwrap_or(u8::MAX)
-}
-
-// A size has 64 bits, so every number is one.
-pub(crate) fn size(number: u64) -> usize
-    ensures { result ≡ number }
-{
-    number as usize
 }

@@ -11,6 +11,7 @@ use Rattle.base.specs.declared.refusals.Refusal.TheVariants.{Unreadable}
 use Rattle.steps.specs.declared.event.Tag.{Tag}
 use Rattle.steps.specs.declared.event.Tag.TheVariants.{PreAccept, Accept, CommitNotice, AcceptReply, ExpPrepare, Logged, Attempt, Lead}
 use Rattle.steps.specs.declared.event.Event.{Event}
+use Rattle.steps.specs.declared.event.Event.TheVariants as Events
 
 -- 1 PreAccept, 2 Accept, 3 CommitNotice; 4 AcceptReply; 5 ExpPrepare; 6 Logged; 7 Attempt; 8 Lead
 pub data Call : Type 0 where
@@ -31,19 +32,16 @@ tag_number Logged = 6
 tag_number Attempt = 7
 tag_number Lead = 8
 
--- what the values stand for
-abbrev pub called : Tag → Proposal → LogStatus → Call
-called PreAccept p status = propose Phases.PreAccept p
-called Accept p status = propose Phases.Accept p
-called CommitNotice p status = propose Phases.CommitNotice p
-called AcceptReply p status = reply p.message
-called ExpPrepare p status = prepare p.message
-called Logged p status = log status p.message.at
-called Attempt p status = try p.message.at
-called Lead p status = lead_at p.message.at
-
+-- what an event stands for
 abbrev pub call_of : Event → Call
-call_of e = called e.tag e.proposal e.status
+call_of (Events.PreAccept p) = propose Phases.PreAccept p
+call_of (Events.Accept p) = propose Phases.Accept p
+call_of (Events.CommitNotice p) = propose Phases.CommitNotice p
+call_of (Events.AcceptReply m) = reply m
+call_of (Events.ExpPrepare m) = prepare m
+call_of (Events.Logged at status) = log status at
+call_of (Events.Attempt at) = try at
+call_of (Events.Lead at) = lead_at at
 
 -- of a number that stands for none it is Lead
 unfoldable pub tag_of : ℕ → Tag

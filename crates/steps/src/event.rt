@@ -4,7 +4,8 @@ ghost use Rattle.steps.specs.Calls.{tag_of};
 
 use base::log_status::LogStatus;
 use base::refusals::Refusal;
-use outcomes::message::Proposal;
+use outcomes::message::{Message, Proposal};
+use table::place::Place;
 
 #[derive(Clone, Copy, PartialEq, Eq)]
 pub enum Tag {
@@ -18,12 +19,17 @@ pub enum Tag {
     Lead,
 }
 
-// AcceptReply and ExpPrepare have of the proposal the message alone, the last three its place; the status is that of a Logged.
+// An event, with what it asks for.
 #[derive(Clone, Copy)]
-pub struct Event {
-    pub tag: Tag,
-    pub proposal: Proposal,
-    pub status: LogStatus,
+pub enum Event {
+    PreAccept(Proposal),
+    Accept(Proposal),
+    CommitNotice(Proposal),
+    AcceptReply(Message),
+    ExpPrepare(Message),
+    Logged { at: Place, status: LogStatus },
+    Attempt(Place),
+    Lead(Place),
 }
 
 impl TryFrom<u64> for Tag {

@@ -2,6 +2,7 @@
 ghost use Rattle.std.specs.Prelude.{◌≡◌, true, ◌≤◌, length};
 ghost use Rattle.std.proofs.lemmas.List.Edits.{sets};
 ghost use Rattle.base.specs.Config.{config_fits};
+ghost use Rattle.base.specs.Refusals.{refusal_number};
 ghost use Rattle.trace.specs.Trace.{refused, opened_trace, text_of};
 ghost use Rattle.trace.specs.Turn.{left_text, Going, Ended};
 ghost use Rattle.trace.specs.Run.{text_room, no_table, ran_by, run_of, run_text};
@@ -29,7 +30,8 @@ pub const DONE: u64 = 100;
 pub const SHORT: u64 = 0;
 
 // DONE, SHORT or the number of the refusal; the table after the last event, or one that every entry refuses; the end of the
-// text.
+// text. A number, and no Result: `run_of` gives a table and an end beside a refusal too, and names the number by which a
+// program and C know it. The text is lent, since there is no heap: its end stands beside it.
 #[derive(Clone, Copy)]
 pub struct Ran {
     pub number: u64,
@@ -50,14 +52,14 @@ pub fn run(trace: &[u8], text: &mut [u8]) -> Ran
         };
     }
     if LIMIT < trace.len() {
-        return refuse(Refusal::TooLong.number(), text);
+        return refuse(Refusal::TooLong, text);
     }
     let head = match header(trace) {
         Ok(head) => head,
-        Err(refusal) => return refuse(refusal.number(), text),
+        Err(refusal) => return refuse(refusal, text),
     };
     if !head.config.fits() {
-        return refuse(Refusal::OutsideBounds.number(), text);
+        return refuse(Refusal::OutsideBounds, text);
     }
     events(trace, head.config, head.next, text)
 }
@@ -94,6 +96,7 @@ fn turns(trace: &[u8], begun: Run, text: &mut [u8]) -> Run
     ensures list { text.new ≡ sets text.old begun.end (left_text trace.now begun) }
 {
     let mut run = begun;
+    // a while, since it counts no index: a turn says how much is left
     while 0 < run.rest {
         run = turn(trace, run, text);
     }
@@ -101,11 +104,12 @@ fn turns(trace: &[u8], begun: Run, text: &mut [u8]) -> Run
 }
 
 // A trace that is refused as a whole, as event 0.
-fn refuse(number: u64, text: &mut [u8]) -> Ran
+fn refuse(refusal: Refusal, text: &mut [u8]) -> Ran
     requires { text_room ≤ length text.old }
-    ensures result { result ≡ ran_by (refused number) }
-    ensures list { text.new ≡ sets text.old 0 (text_of (refused number)) }
+    ensures result { result ≡ ran_by (refused (refusal_number refusal)) }
+    ensures list { text.new ≡ sets text.old 0 (text_of (refused (refusal_number refusal))) }
 {
+    let number = refusal.number();
     let end = put_line(text, 0, 0, Answer::Refused { number }, &[]);
     Ran {
         number,

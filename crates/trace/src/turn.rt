@@ -1,10 +1,12 @@
 // One event of a trace.
 ghost use Rattle.std.specs.Prelude.{◌≡◌, true, ◌+◌, ◌≤◌, ◌<◌, length};
 ghost use Rattle.std.proofs.lemmas.List.Edits.{sets};
+ghost use Rattle.base.specs.Refusals.{refusal_number};
 ghost use Rattle.bounds.specs.Bounds.{table_fits};
 ghost use Rattle.trace.specs.Turn.{turn_of, turn_text, stopped_run, refusal_text};
 
 use base::answer::Answer;
+use base::refusals::Refusal;
 use lines::line::put_line;
 use reader::next::next_at;
 use steps::step::step;
@@ -31,7 +33,7 @@ pub(crate) fn turn(trace: &[u8], run: Run, text: &mut [u8]) -> Run
 {
     let next = match next_at(trace, run.at, run.table.config.n) {
         Ok(next) => next,
-        Err(refusal) => return stop(run, trace.len(), refusal.number(), text),
+        Err(refusal) => return stop(run, trace.len(), refusal, text),
     };
     let mut order = [0u8; 224];
     let did = step(run.table, next.event, &mut order);
@@ -49,14 +51,15 @@ pub(crate) fn turn(trace: &[u8], run: Run, text: &mut [u8]) -> Run
 }
 
 // The line of an event that cannot be read, and nothing is left. at is the trace's end.
-fn stop(run: Run, at: usize, refusal: u64, text: &mut [u8]) -> Run
+fn stop(run: Run, at: usize, refusal: Refusal, text: &mut [u8]) -> Run
     requires events_bound { run.events < 65536 }
     requires end_in_bounds { run.end + 50 ≤ length text.old }
-    ensures result { result ≡ stopped_run at run refusal }
-    ensures list { text.new ≡ sets text.old run.end (refusal_text run refusal) }
+    ensures result { result ≡ stopped_run at run (refusal_number refusal) }
+    ensures list { text.new ≡ sets text.old run.end (refusal_text run (refusal_number refusal)) }
 {
     let events = run.events + 1;
-    let answer = Answer::Refused { number: refusal };
+    let number = refusal.number();
+    let answer = Answer::Refused { number };
     let end = put_line(text, run.end, events as u64, answer, &[]);
     Run {
         at,

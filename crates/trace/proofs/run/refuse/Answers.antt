@@ -5,4 +5,4 @@ use Rattle.lines.proofs.RoomLaws.{line_room}
 use Rattle.trace.proofs.run.refuse.Goals as goal
 
 pub put_line-end-requires : goal.put_line-end-requires
-put_line-end-requires c = omega (arith, line_room 0 (Refused c.args.number) [] (λ i l. absurd (omega arith)))
+put_line-end-requires c = omega (arith, line_room 0 (Refused c.number-number.result) [] (λ i l. absurd (omega arith)))

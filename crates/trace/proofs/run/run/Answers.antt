@@ -15,7 +15,7 @@ returns-then-text-lt-ROOM c =
 pub returns-then-trace-gt-LIMIT : goal.returns-then-trace-gt-LIMIT
 returns-then-trace-gt-LIMIT c =
     let s = c.args.trace.now in
-    let x = rw c.number.ensures at c.refuse.ensures in
+    let x = c.refuse.ensures in
     let is = run_is s c.args.text.now (omega arith) _ (trace_long s (omega arith)) c.refuse.result _ x.result x.list in
     record { result = is.0; list = is.1 }
 
@@ -25,7 +25,7 @@ returns-in-Err c =
     let h = header_of s in
     let e = c.in-Err.ensures in
     let l : 0 < h.cursor.refusal = omega (arith, e, refusal_some c.in-Err.refusal) in
-    let x = rw (c.number-in-Err.ensures, ← e) at c.refuse-in-Err.ensures in
+    let x = rw (← e) at c.refuse-in-Err.ensures in
     let is = run_is s c.args.text.now (omega arith) _ (trace_unread s (omega arith) h refl l) c.refuse-in-Err.result _ x.result x.list in
     record { result = is.0; list = is.1 }
 
@@ -33,7 +33,7 @@ pub returns-then-not-fits : goal.returns-then-not-fits
 returns-then-not-fits c =
     let s = c.args.trace.now in
     let n = c.in-Ok.ensures in
-    let x = rw c.number-then-not-fits.ensures at c.refuse-then-not-fits.ensures in
+    let x = c.refuse-then-not-fits.ensures in
     let fails = rw n.0 at (failed c.fits.ensures c.if-not-fits.true) in
     let is =
     run_is s c.args.text.now (omega arith) _ (trace_outside s (omega arith) (header_of s) refl n.1 fails) c.refuse-then-not-fits.result _ x.result x.list in

@@ -19,7 +19,7 @@ returns-in-Err c =
     let r = next_by s run in
     let e = c.in-Err.ensures in
     let h : 0 < r.refusal = omega (arith, e, refusal_some c.in-Err.refusal) in
-    let x = rw (c.number.ensures, ← e) at c.stop.ensures in
+    let x = rw (← e) at c.stop.ensures in
     record {
       result = turn_stopped s run r refl h c.stop.result x.result;
       list = rw (text_stopped s run r refl h) at x.list;
