@@ -15,7 +15,6 @@ use std::io;
 use std::rt::Env;
 use table::place::Place;
 use table::table::Table;
-use text::Answered;
 
 fn main(rt: HostRuntime) -> io::Result<()> {
     let count = arg_count(&rt);
@@ -46,8 +45,8 @@ const ASKED: Place = Place { row: 6, col: 31 };
 fn show(rt: &impl Print, shape: Shape) -> io::Result<()> {
     let mut order = [255u8; 224];
     let tried = attempt(shapes::full(shape), ASKED, &mut order);
-    print!(rt; "{shape}: {}", Answered(tried.answer))?;
-    text::ran(rt, &order, tried.ran)
+    print!(rt; "{shape}: {}", tried.answer)?;
+    text::ran(rt, order.get(..tried.ran).unwrap_or(&[]))
 }
 
 // The digit that the first argument begins with.
@@ -65,5 +64,5 @@ fn repeat(rt: &impl Print, table: Table, times: usize) -> io::Result<()> {
     for _ in 0..times {
         ran = attempt(table, ASKED, &mut order).ran;
     }
-    text::ran(rt, &order, ran)
+    text::ran(rt, order.get(..ran).unwrap_or(&[]))
 }

@@ -15,9 +15,6 @@ use Rattle.reading.specs.Events.{EventRead}
 use Rattle.reading.proofs.HeldLaws.{call_back, read_held}
 use Rattle.bench_values.specs.Values.{number_after, first_in, read_code}
 
-pub after_none : (t : Table) (call : Call) (times : ℕ) → times ≡ 0 → number_after times t call ≡ 0
-after_none t call times h = rw h
-
 pub after_some : (t : Table) (call : Call) (times : ℕ) → (times ≡ 0 → ⊥) → number_after times t call ≡ number_of (answer_to t call)
 after_some t call zero h = absurd (h refl)
 after_some t call (suc times) h = refl

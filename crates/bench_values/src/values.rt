@@ -3,7 +3,7 @@ ghost use Rattle.std.specs.Prelude.{◌≡◌};
 ghost use Rattle.steps.specs.Calls.{call_of};
 ghost use Rattle.bench_values.specs.Values.{number_after, values_code};
 
-use base::refusals;
+use base::refusals::Refusal;
 use bounds::bounds::fits;
 use calls::calls::SHORT;
 use groups::cursor::Cursor;
@@ -25,11 +25,11 @@ pub fn njb_step(image: &[u8], trace: &[u8], times: u64) -> u64
         return SHORT;
     }
     if !is_known(image) {
-        return refusals::OUTSIDE_BOUNDS;
+        return Refusal::OutsideBounds.number();
     }
     let table = table_at(image);
     if !fits(&table) {
-        return refusals::OUTSIDE_BOUNDS;
+        return Refusal::OutsideBounds.number();
     }
     let mut cursor = Cursor::on(trace, 0);
     match event(&mut cursor, table.config.n) {
@@ -47,17 +47,9 @@ fn again(table: Table, asked: Event, times: u64) -> u64
         return 0;
     }
     let mut order = [0u8; 224];
-    let first = step(table, asked, &mut order);
-    let begun = first.outcome;
-    let said = begun.answer;
-    let mut number = said.number();
-    let mut i: u64 = 1;
-    while i < times {
-        let did = step(table, asked, &mut order);
-        let outcome = did.outcome;
-        let answer = outcome.answer;
-        number = answer.number();
-        i += 1;
+    let mut number = step(table, asked, &mut order).outcome.answer.number();
+    for _ in 1..times {
+        number = step(table, asked, &mut order).outcome.answer.number();
     }
     number
 }

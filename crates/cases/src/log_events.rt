@@ -1,5 +1,4 @@
 // Cases of log events, on tables of N 3 that begin empty. Each case goes on with the table that the one before it leaves.
-use super::text::Answered;
 use super::{messages, running, text};
 use base::log_status::LogStatus;
 use handlers::{lead, replies};
@@ -82,8 +81,8 @@ fn told(
     let mut order = [0u8; 224];
     let done = logged(table, at, status, &mut order);
     let outcome = done.outcome;
-    print!(rt; "{what}: {}", Answered(outcome.answer))?;
-    text::ran(rt, &order, done.ran)?;
+    print!(rt; "{what}: {}", outcome.answer)?;
+    text::ran(rt, order.get(..done.ran).unwrap_or(&[]))?;
     text::output(rt, outcome.output)?;
     let bars = outcome.table.bars;
     println!(rt; "; bars {} {} {}", bars[0], bars[1], bars[2])?;

@@ -1,5 +1,4 @@
 // Cases of the handlers, on tables begun empty: N 3, own 0, simple 2, super 3. Requests put key 5 unless said.
-use super::text::Answered;
 use super::{sets, text};
 use bounds::open;
 use deps::batches::Batch;
@@ -36,7 +35,7 @@ pub(crate) fn put(message: Message, seq: u64, key: u16) -> Proposal {
 
 // What a call did to its slot, and the table after it.
 fn show(rt: &impl Print, what: &str, at: Place, outcome: Outcome) -> io::Result<Table> {
-    print!(rt; "{what}: {}", Answered(outcome.answer))?;
+    print!(rt; "{what}: {}", outcome.answer)?;
     text::slot_at(rt, outcome.table, at)?;
     text::output(rt, outcome.output)?;
     println!(rt; "")?;
@@ -206,7 +205,7 @@ pub(crate) fn sequences(rt: &impl Print) -> io::Result<()> {
 // A table of a configuration that is refused is refused by every entry.
 pub(crate) fn opens(rt: &impl Print) -> io::Result<()> {
     let opened = open::open(3, 3, 2, 3);
-    println!(rt; "own 3 of 3: {}", Answered(opened.answer))?;
+    println!(rt; "own 3 of 3: {}", opened.answer)?;
     let head = from(9, 9, 99, 5);
     let outcome = replies::accept_reply(opened.table, head);
     show(rt, "then AcceptReply of 9 for 9.99", head.at, outcome)?;

@@ -1,5 +1,4 @@
 // Cases of the attempt, on a table of N 3 that begins empty. The bars are raised by hand, as far as slots are committed.
-use super::text::Answered;
 use super::{messages, sets, text};
 use attempts::attempt::attempt;
 use deps::batches::Batch;
@@ -43,8 +42,8 @@ pub(crate) fn committed(table: Table, message: Message, seq: u64, cols: [u8; 7])
 fn tried(rt: &impl Print, what: &str, table: Table, row: usize, col: usize) -> io::Result<Table> {
     let mut order = [0u8; 224];
     let tried = attempt(table, Place { row, col }, &mut order);
-    print!(rt; "{what}: {}", Answered(tried.answer))?;
-    text::ran(rt, &order, tried.ran)?;
+    print!(rt; "{what}: {}", tried.answer)?;
+    text::ran(rt, order.get(..tried.ran).unwrap_or(&[]))?;
     println!(rt; "")?;
     Ok(tried.table)
 }
@@ -53,8 +52,5 @@ fn tried(rt: &impl Print, what: &str, table: Table, row: usize, col: usize) -> i
 fn short(rt: &impl Print, table: Table) -> io::Result<()> {
     let mut order = [0u8; 223];
     let tried = attempt(table, Place { row: 3, col: 32 }, &mut order);
-    println!(rt;
-        "then Attempt 3.32 with a list of 223: {}",
-        Answered(tried.answer)
-    )
+    println!(rt; "then Attempt 3.32 with a list of 223: {}", tried.answer)
 }

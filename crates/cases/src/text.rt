@@ -1,5 +1,4 @@
 // How the program prints what a case answers: sets as [1,_,3], batches, decisions, slots, records.
-use base::answer::Answer;
 use deps::batches::{Batch, Kind};
 use deps::sets::DepSet;
 use outcomes::output::{Output, Record, What};
@@ -58,31 +57,17 @@ impl fmt::Display for Requests {
 
 // What a slot, a record or a decision holds.
 #[derive(Clone, Copy)]
-struct Values {
-    seq: u64,
-    deps: DepSet,
-    batch: Batch,
-}
+struct Values(Contents);
 
 impl fmt::Display for Values {
     fn fmt<W: fmt::Write>(&self, f: &mut fmt::Formatter<W>) -> fmt::Result {
         write!(
             f,
             "({},{},{})",
-            self.seq,
-            Set(self.deps),
-            Requests(self.batch)
+            self.0.seq,
+            Set(self.0.deps),
+            Requests(self.0.batch)
         )
-    }
-}
-
-impl From<Contents> for Values {
-    fn from(contents: Contents) -> Values {
-        Values {
-            seq: contents.seq,
-            deps: contents.deps,
-            batch: contents.batch,
-        }
     }
 }
 
@@ -93,33 +78,27 @@ impl fmt::Display for Decided {
     fn fmt<W: fmt::Write>(&self, f: &mut fmt::Formatter<W>) -> fmt::Result {
         match self.0 {
             Decision::Wait => f.write_str("wait"),
-            Decision::Committed(contents) => write!(f, "Committed {}", Values::from(contents)),
-            Decision::Accepting(contents) => write!(f, "Accepting {}", Values::from(contents)),
-            Decision::PreAccepting(contents) => {
-                write!(f, "PreAccepting {}", Values::from(contents))
-            }
+            Decision::Committed(contents) => write!(f, "Committed {}", Values(contents)),
+            Decision::Accepting(contents) => write!(f, "Accepting {}", Values(contents)),
+            Decision::PreAccepting(contents) => { write!(f, "PreAccepting {}", Values(contents)) }
             Decision::Refused { number } => write!(f, "refused {number}"),
         }
     }
 }
 
-#[derive(Clone, Copy)]
-pub(crate) struct Answered(pub Answer);
-
-impl fmt::Display for Answered {
-    fn fmt<W: fmt::Write>(&self, f: &mut fmt::Formatter<W>) -> fmt::Result {
-        match self.0 {
-            Answer::Done => f.write_str("done"),
-            Answer::Ignored => f.write_str("ignored"),
-            Answer::NotYet => f.write_str("notyet"),
-            Answer::Already => f.write_str("already"),
-            Answer::Refused { number } => write!(f, "refused {number}"),
-        }
-    }
-}
-
+// A slot as row.column.
 #[derive(Clone, Copy)]
 struct At(Place);
+
+// By its entry in a list of slots run, which is 32 * row + column.
+impl From<u8> for At {
+    fn from(entry: u8) -> At {
+        At(Place {
+            row: usize::from(entry / 32),
+            col: usize::from(entry % 32),
+        })
+    }
+}
 
 impl fmt::Display for At {
     fn fmt<W: fmt::Write>(&self, f: &mut fmt::Formatter<W>) -> fmt::Result {
@@ -151,11 +130,11 @@ pub(crate) fn slot_at(rt: &impl Print, table: Table, at: Place) -> io::Result<()
         return Ok(());
     }
     let slot = table.slot(at);
-    let values = Values {
+    let values = Values(Contents {
         seq: u64::from(slot.seq),
         deps: slot.deps,
         batch: slot.batch,
-    };
+    });
     let count = table.lens[at.row];
     print!(rt; "; slot {} of {count} {:?} {values}", At(at), slot.status)
 }
@@ -169,11 +148,11 @@ pub(crate) fn output(rt: &impl Print, output: Output) -> io::Result<()> {
 }
 
 fn one(rt: &impl Print, record: Record) -> io::Result<()> {
-    let values = Values {
+    let values = Values(Contents {
         seq: u64::from(record.seq),
         deps: record.deps,
         batch: record.batch,
-    };
+    });
     print!(rt;
         "; {} {} ballot {} {:?} {values}",
         To(record.what),
@@ -183,10 +162,10 @@ fn one(rt: &impl Print, record: Record) -> io::Result<()> {
     )
 }
 
-// The slots that an attempt has run: each entry of the list is 32 * row + column.
-pub(crate) fn ran(rt: &impl Print, order: &[u8], count: usize) -> io::Result<()> {
-    for entry in order.iter().take(count) {
-        print!(rt; " {}.{}", entry / 32, entry % 32)?;
+// The slots that an attempt has run.
+pub(crate) fn ran(rt: &impl Print, slots: &[u8]) -> io::Result<()> {
+    for entry in slots {
+        print!(rt; " {}", At::from(*entry))?;
     }
     Ok(())
 }

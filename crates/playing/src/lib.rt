@@ -3,12 +3,36 @@
 
 ghost use Rattle.std.specs.Io.{ReadsAtMost};
 
-use std::io;
 use std::io::Read;
+use std::rt::Files;
+use std::{fs, io};
 use trace::run::{ROOM, run};
+
+// No path of the system is longer.
+pub const PATH_ROOM: usize = 4096;
 
 // One byte more than the longest trace has, so that a longer one is seen to be longer.
 const MOST: usize = 65537;
+
+// The path that a name is, and its file; none where it cannot be opened, and then it is said why. Of a name that is no path it
+// is said by who asks for it.
+pub fn open<'a, R: Files + Eprint>(
+    rt: &R,
+    asker: &str,
+    name: &'a [u8],
+) -> io::Result<Option<(&'a str, R::File)>> {
+    let Ok(path) = str::from_utf8(name) else {
+        eprintln!(rt; "{asker}: the name is not UTF-8")?;
+        return Ok(None);
+    };
+    match fs::open(rt, path) {
+        Ok(file) => Ok(Some((path, file))),
+        Err(error) => {
+            eprintln!(rt; "{path}: {error}")?;
+            Ok(None)
+        }
+    }
+}
 
 // Reads the file to its end, runs what it holds and prints the text. A file that cannot be read is said to be so by its name.
 pub fn play<R: Read>(rt: &(impl Print + Eprint), file: &mut R, name: &str) -> io::Result<()> {
@@ -27,18 +51,19 @@ fn read_all<R: Read>(file: &mut R, room: &mut [u8; MOST]) -> io::Result<usize>
     ensures { ReadsAtMost result room.new }
 {
     let count = read(file, room)?;
-    if !is_at_end(file)? {
-        return Err(io::Error::from(io::ErrorKind::TimedOut));
-    }
+    read_to_end(file)?;
     Ok(count)
 }
 
-// How much of the room is filled.
-fn read<R: Read>(file: &mut R, room: &mut [u8; MOST]) -> io::Result<usize>
+// How much of the room is filled, by the whole file or by its beginning. It is lent as an array, and filled as a slice, since the
+// borrow checker lends no part of an array of N.
+pub fn read<R: Read, const N: usize>(file: &mut R, room: &mut [u8; N]) -> io::Result<usize>
     ensures { ReadsAtMost result room.new }
 {
+    let room = &mut room[..];
     let mut count: usize = 0;
-    while count < MOST {
+    // a while: how many reads it takes is not known beforehand
+    while count < room.len() {
         let got = file.read(&mut room[count..])?;
         if got == 0 {
             break;
@@ -54,14 +79,14 @@ fn run_to(trace: &[u8], text: &mut [u8; ROOM]) -> usize {
 }
 
 // Reads what is left, since whoever writes it may wait for that. The turns are counted, so that the loop ends whatever the
-// file gives; false where they are used up.
-fn is_at_end<R: Read>(file: &mut R) -> io::Result<bool> {
+// file gives.
+fn read_to_end<R: Read>(file: &mut R) -> io::Result<()> {
     for _ in 0..u64::MAX {
         if read_some(file)? == 0 {
-            return Ok(true);
+            return Ok(());
         }
     }
-    Ok(false)
+    Err(io::Error::from(io::ErrorKind::TimedOut))
 }
 
 fn read_some<R: Read>(file: &mut R) -> io::Result<usize> {

@@ -1,12 +1,10 @@
 // The trace program on files: for each argument the file's name, and what the trace in it prints.
 #![tactic(auto)]
 
+use playing::PATH_ROOM;
 use std::env::FillError;
+use std::io;
 use std::rt::{Env, Files};
-use std::{fs, io};
-
-// No path of the system is longer.
-const PATH_ROOM: usize = 4096;
 
 fn main(rt: HostRuntime) -> io::Result<()> {
     for i in 1..usize::MAX {
@@ -22,12 +20,8 @@ fn main(rt: HostRuntime) -> io::Result<()> {
 
 // The file of that name.
 fn replay(rt: &(impl Files + Print + Eprint), name: &[u8]) -> io::Result<()> {
-    let Ok(path) = str::from_utf8(name) else {
-        return eprintln!(rt; "trace: the name is not UTF-8");
-    };
-    let mut file = match fs::open(rt, path) {
-        Ok(file) => file,
-        Err(error) => return eprintln!(rt; "{path}: {error}"),
+    let Some((path, mut file)) = playing::open(rt, "trace", name)? else {
+        return Ok(());
     };
     println!(rt; "{path}")?;
     playing::play(rt, &mut file, path)

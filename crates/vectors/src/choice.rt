@@ -5,72 +5,43 @@ ghost use Rattle.std.specs.Prelude.{◌≤◌, length};
 use super::list::List;
 use super::outcome::{Outcome, UNTOUCHED, agree};
 use super::parts::Config;
-use host::recovery::{nj_paper_choice, nj_rust_choice};
-use recovering::recovery::Rule;
 
-// The row of the slot, the highest ballot that was voted at, and the row's default ballot.
-#[derive(Clone, Copy)]
-pub struct Prepare {
-    pub row: u64,
-    pub highest: u64,
-    pub default: u64,
-}
-
-pub(crate) fn case(list: &mut List, rule: Rule) -> Option<Outcome> {
-    let config = list.config()?;
-    let prepare = Prepare {
-        row: list.any()?,
-        highest: list.any()?,
-        default: list.any()?,
-    };
+// Of the C function for the rule.
+pub(crate) fn case<F>(list: &mut List, choice: F) -> Option<Outcome>
+where
+    F: Fn(u64, u64, u64, u64, u64, u64, u64, &[u8], &[u8], &mut [u8]) -> u64,
+    requires { F.IsAlwaysCallable choice }
+{
+    let Config {
+        n,
+        own,
+        simple,
+        sup,
+    } = list.config()?;
+    let row = list.any()?;
+    let highest = list.any()?;
+    let default = list.any()?;
     let mut acks = [0u8; 7];
     let mut votes = [0u8; 882];
     list.put_marks(&mut acks)?;
     let voted = list.number(7)?;
     for _ in 0..voted {
-        put_vote(list, config.n, &mut votes)?;
+        put_vote(list, n, &mut votes)?;
     }
     let mut out = [UNTOUCHED; 124];
-    let answers = choice(rule, config, prepare, &acks, &votes, &mut out);
+    let answers = choice(
+        n, own, simple, sup, row, highest, default, &acks, &votes, &mut out,
+    );
     let listed = list.any()?;
     let mut contents = [0u8; 124];
     list.put_word(&mut contents, 0)?;
-    list.put_set(config.n, &mut contents, 8)?;
+    list.put_set(n, &mut contents, 8)?;
     list.put_batch(&mut contents, 15)?;
     Some(Outcome {
         answers,
         listed,
         agree: agree(listed, &out, &contents),
     })
-}
-
-fn choice(
-    rule: Rule,
-    config: Config,
-    prepare: Prepare,
-    acks: &[u8],
-    votes: &[u8],
-    out: &mut [u8],
-) -> u64 {
-    let Config {
-        n,
-        own,
-        simple,
-        sup,
-    } = config;
-    let Prepare {
-        row,
-        highest,
-        default,
-    } = prepare;
-    match rule {
-        Rule::Rust => {
-            nj_rust_choice(n, own, simple, sup, row, highest, default, acks, votes, out)
-        }
-        Rule::Paper => {
-            nj_paper_choice(n, own, simple, sup, row, highest, default, acks, votes, out)
-        }
-    }
 }
 
 // A replica, and its status, sequence, set and batch.

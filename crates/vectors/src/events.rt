@@ -1,30 +1,24 @@
 // Events of a run: a tag, which is a trace's, and what the event holds.
 use super::list::List;
 use base::log_status::LogStatus;
-use deps::batches::Batch;
-use deps::sets::DepSet;
 use outcomes::message::{Message, Proposal};
 use steps::event::{Event, Tag};
 use table::place::Place;
 
 impl List<'_> {
     pub(crate) fn event(&mut self, n: u64) -> Option<Event> {
-        let tag = Tag::try_from(self.any()?).ok()?;
-        let mut status = LogStatus::Committed; // the events but Logged have no use for it
-        let proposal = match tag {
-            Tag::PreAccept | Tag::Accept | Tag::CommitNotice => self.proposal(n)?,
-            Tag::AcceptReply | Tag::ExpPrepare => without_contents(self.message()?),
-            Tag::Logged => {
-                let place = self.place()?;
-                status = LogStatus::try_from(self.any()?).ok()?;
-                from_nobody(place)
-            }
-            Tag::Attempt | Tag::Lead => from_nobody(self.place()?),
-        };
-        Some(Event {
-            tag,
-            proposal,
-            status,
+        Some(match Tag::try_from(self.any()?).ok()? {
+            Tag::PreAccept => Event::PreAccept(self.proposal(n)?),
+            Tag::Accept => Event::Accept(self.proposal(n)?),
+            Tag::CommitNotice => Event::CommitNotice(self.proposal(n)?),
+            Tag::AcceptReply => Event::AcceptReply(self.message()?),
+            Tag::ExpPrepare => Event::ExpPrepare(self.message()?),
+            Tag::Logged => Event::Logged {
+                at: self.place()?,
+                status: LogStatus::try_from(self.any()?).ok()?,
+            },
+            Tag::Attempt => Event::Attempt(self.place()?),
+            Tag::Lead => Event::Lead(self.place()?),
         })
     }
 
@@ -53,22 +47,4 @@ impl List<'_> {
             col: self.any()? as usize,
         })
     }
-}
-
-fn without_contents(message: Message) -> Proposal {
-    Proposal {
-        message,
-        seq: 0,
-        deps: DepSet::EMPTY,
-        batch: Batch::NO_OP,
-    }
-}
-
-// A Logged, an Attempt and a Lead are no messages.
-fn from_nobody(at: Place) -> Proposal {
-    without_contents(Message {
-        peer: 0,
-        at,
-        ballot: 0,
-    })
 }

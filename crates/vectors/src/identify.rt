@@ -2,10 +2,9 @@
 // and the set that the batch waits for.
 use super::list::List;
 use super::outcome::{Outcome, agree};
+use base::numbers::size;
+use deciding::codes::DONE;
 use keys::columns::Keys;
-
-// Neither refresh nor identify has a C function, so they have no number of their own: what they do is done.
-const DONE: u64 = 100;
 
 // No table has more slots.
 const SLOTS: u64 = 224;
@@ -15,8 +14,8 @@ pub(crate) fn case(list: &mut List) -> Option<Outcome> {
     let stores = list.number(SLOTS)?;
     let mut keys = Keys::EMPTY;
     for _ in 0..stores {
-        let row = list.number(6)? as usize;
-        let col = list.number(31)? as usize;
+        let row = size(list.number(6)?);
+        let col = size(list.number(31)?);
         let batch = list.batch()?;
         keys = keys.refresh(row, col, batch);
     }
@@ -24,7 +23,7 @@ pub(crate) fn case(list: &mut List) -> Option<Outcome> {
     let listed = list.any()?;
     let waits_for = list.set(n)?;
     Some(Outcome {
-        answers: DONE,
+        answers: DONE, // neither refresh nor identify has a C function, and so a number: what they do is done
         listed,
         agree: agree(listed, &set.cols, &waits_for.cols),
     })

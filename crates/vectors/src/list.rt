@@ -59,17 +59,10 @@ impl<'a> List<'a> {
     }
 }
 
-// The value of digits, if there are any and it has no more than 64 bits.
+// The value of digits, if there are any and it has no more than 64 bits. A plus before them, which parse takes, is no digit.
 fn value_of(digits: &[u8]) -> Option<u64> {
-    if digits.is_empty() {
+    if digits.starts_with(b"+") {
         return None;
     }
-    let mut value: u64 = 0;
-    for &byte in digits {
-        if !byte.is_ascii_digit() {
-            return None;
-        }
-        value = value.checked_mul(10)?.checked_add(u64::from(byte - b'0'))?;
-    }
-    Some(value)
+    str::from_utf8(digits).ok()?.parse().ok()
 }

@@ -4,6 +4,7 @@
 #![tactic(auto)]
 
 mod list; // list.rt: what is left of the list, and the numbers in it
+mod kind; // kind.rt: the kinds of cases
 mod parts; // parts.rt: what cases are made of, out of numbers: configurations, marks, sets, batches
 mod outcome; // outcome.rt: how a case went: what the function answers beside what the list has
 mod union; // union.rt: cases of the union
@@ -19,61 +20,25 @@ mod run; // run.rt: cases of handlers, log events and attempts, many events on o
 mod tally; // tally.rt: the counts, and the lines on what differs
 mod replay; // replay.rt: the cases of a list, one after the other
 
-ghost use Rattle.std.specs.Io.{ReadsAtMost};
-
-use std::io::Read;
-use std::rt::{Env, Files};
-use std::{fs, io};
+use playing::PATH_ROOM;
+use std::io;
+use std::rt::Env;
 
 // The room for a list. One that fills it is too long, since more of it may be left.
 const ROOM: usize = 1048576;
 
-// No path of the system is longer.
-const PATH_ROOM: usize = 4096;
-
 fn main(rt: HostRuntime) -> io::Result<()> {
-    let Some(file) = open(&rt)? else {
+    let mut name = [0u8; PATH_ROOM];
+    let Ok(length) = rt.arg(1, &mut name) else {
+        return eprintln!(rt; "list: the name is missing or too long");
+    };
+    let Some((_, mut file)) = playing::open(&rt, "list", &name[..length])? else {
         return Ok(());
     };
     let mut room = [0u8; ROOM];
-    let count = read(file, &mut room)?;
+    let count = playing::read(&mut file, &mut room)?;
     if count == ROOM {
         return println!(rt; "the list is too long");
     }
     replay::replay(&rt, &room[..count])
-}
-
-// The file that the first argument names; none where it cannot be opened, and then it is said why.
-fn open<R: Env + Files + Eprint>(rt: &R) -> io::Result<Option<R::File>> {
-    let mut room = [0u8; PATH_ROOM];
-    let Ok(length) = rt.arg(1, &mut room) else {
-        rt.eprintln("list: the name is missing or too long")?;
-        return Ok(None);
-    };
-    let Ok(path) = str::from_utf8(&room[..length]) else {
-        rt.eprintln("list: the name is not UTF-8")?;
-        return Ok(None);
-    };
-    match fs::open(rt, path) {
-        Ok(file) => Ok(Some(file)),
-        Err(error) => {
-            eprintln!(rt; "{path}: {error}")?;
-            Ok(None)
-        }
-    }
-}
-
-// How much of the room the list fills. The file is closed.
-fn read<R: Read + Drop>(mut file: R, room: &mut [u8; ROOM]) -> io::Result<usize>
-    ensures { ReadsAtMost result room.new }
-{
-    let mut count: usize = 0;
-    while count < ROOM {
-        let got = file.read(&mut room[count..])?;
-        if got == 0 {
-            break;
-        }
-        count += got;
-    }
-    Ok(count)
 }

@@ -1,4 +1,5 @@
 // How a case went.
+use deciding::codes::DONE;
 
 // What fills out before a call, so that what is written shows.
 pub(crate) const UNTOUCHED: u8 = 0xA5;
@@ -39,9 +40,10 @@ pub(crate) fn agree(listed: u64, out: &[u8], contents: &[u8]) -> bool {
     are_all(contents, 0) && are_all(out, UNTOUCHED)
 }
 
-// 100 done, 105 committed, 106 accepting, 107 pre-accepting; 104 is a wait.
+// 105 committed, 106 accepting, 107 pre-accepting; 104 is a wait. By the numbers that C gets, of which the list may have any: an
+// enum of these four would be made of a number only to be asked whether there is one.
 fn goes_on(code: u64) -> bool {
-    matches!(code, 100 | 105 | 106 | 107)
+    matches!(code, DONE | 105 | 106 | 107)
 }
 
 pub(crate) fn are_all(bytes: &[u8], byte: u8) -> bool {

@@ -2,13 +2,15 @@
 ghost use Rattle.std.specs.Prelude.{◌+◌, ◌≤◌, length, IfSome};
 
 use super::list::List;
+use base::numbers::size;
 use deps::batches::{Batch, Kind, Request};
 use deps::sets::DepSet;
 use layout::batches::put_batch;
 use layout::numbers::put_word;
 use octets::sets::put_set;
 
-// How many replicas there are, which one is mine, and how many make a quorum.
+// How many replicas there are, which one is mine, and how many make a quorum. Numbers of 64 bits and no base::config::Config,
+// since the C functions take them so.
 #[derive(Clone, Copy)]
 pub struct Config {
     pub n: u64,
@@ -43,7 +45,7 @@ impl List<'_> {
         requires { 7 ≤ length marks.old }
         ensures { IfSome result (λ replica. replica ≤ 6) }
     {
-        let replica = self.number(6)? as usize;
+        let replica = size(self.number(6)?);
         marks[replica] = 1;
         Some(replica)
     }
@@ -83,7 +85,7 @@ impl List<'_> {
     // The first n rows, each 0 for nothing or a column and one; the others have nothing.
     pub(crate) fn set(&mut self, n: u64) -> Option<DepSet> {
         let mut set = DepSet::EMPTY;
-        for number in set.cols.iter_mut().take(n as usize) {
+        for number in set.cols.iter_mut().take(size(n)) {
             *number = self.byte()?;
         }
         Some(set)

@@ -1,9 +1,11 @@
 // What an event of a run puts out, beside what the list has.
 use super::contents::Contents;
 use super::list::List;
+use base::numbers::size;
 use outcomes::output::{Output, Record, What};
 
-// What a record is, the peer that it goes to, and the ballot that it was asked with: 0 where there is none.
+// What a record is, the peer that it goes to, and the ballot that it was asked with, 0 where there is none: three numbers, of which
+// the list may have any. Read as a What they would be an Option of an Option, None where the list ends and where no record is so.
 #[derive(Clone, Copy, PartialEq, Eq)]
 pub struct Head {
     pub what: u64,
@@ -28,7 +30,7 @@ impl From<What> for Head {
 
 // How many records there are, and then each.
 pub(crate) fn same_output(list: &mut List, n: u64, output: Output) -> Option<bool> {
-    let listed = list.number(2)? as usize;
+    let listed = size(list.number(2)?);
     let mut agree = output.count == listed;
     for record in output.records.iter().take(listed) {
         let same = same_record(list, n, *record)?;

@@ -1,10 +1,11 @@
-// The cases of a list, one after the other. A new kind of cases has a module like union.rt, an arm in case, and its name and
-// number in tally.rt.
+// The cases of a list, one after the other. A new kind of cases has a module like union.rt, its name and number in kind.rt, an
+// arm in case, and its count in tally.rt.
+use super::kind::Kind;
 use super::list::{List, first_line};
 use super::outcome::Outcome;
 use super::tally::Tally;
 use super::{choice, fast, identify, run, union};
-use recovering::recovery::Rule;
+use host::recovery::{nj_paper_choice, nj_rust_choice};
 use std::io;
 
 pub(crate) fn replay(rt: &impl Print, list: &[u8]) -> io::Result<()> {
@@ -12,7 +13,7 @@ pub(crate) fn replay(rt: &impl Print, list: &[u8]) -> io::Result<()> {
     rt.write_all(b"\n")?;
     let tally = match List::after_head(list) {
         Some(mut rest) => cases(rt, &mut rest)?,
-        None => Tally::NONE.with(rt, 0, None)?,
+        None => Tally::NONE.with(rt, None, None)?,
     };
     tally.print(rt)
 }
@@ -24,12 +25,12 @@ fn cases(rt: &impl Print, list: &mut List) -> io::Result<Tally> {
         if list.is_empty() {
             break;
         }
-        let kind = list.any();
+        let kind = next_kind(list);
         let outcome = match kind {
             Some(kind) => case(list, kind),
             None => None,
         };
-        tally = tally.with(rt, kind.unwrap_or(0), outcome)?;
+        tally = tally.with(rt, kind, outcome)?;
         if outcome.is_none() {
             break;
         }
@@ -37,15 +38,18 @@ fn cases(rt: &impl Print, list: &mut List) -> io::Result<Tally> {
     Ok(tally)
 }
 
+fn next_kind(list: &mut List) -> Option<Kind> {
+    Kind::try_from(list.any()?).ok()
+}
+
 // A case, from what comes after its kind on; None where it cannot be read.
-fn case(list: &mut List, kind: u64) -> Option<Outcome> {
+fn case(list: &mut List, kind: Kind) -> Option<Outcome> {
     match kind {
-        1 => union::case(list),
-        2 => fast::case(list),
-        3 => choice::case(list, Rule::Rust),
-        4 => choice::case(list, Rule::Paper),
-        5 => identify::case(list),
-        6 => run::case(list),
-        _ => None,
+        Kind::Union => union::case(list),
+        Kind::FastDecision => fast::case(list),
+        Kind::RustChoice => choice::case(list, nj_rust_choice),
+        Kind::PaperChoice => choice::case(list, nj_paper_choice),
+        Kind::Identify => identify::case(list),
+        Kind::Run => run::case(list),
     }
 }

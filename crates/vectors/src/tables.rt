@@ -1,6 +1,7 @@
 // The table after a run, beside what the list has.
 use super::contents::Contents;
 use super::list::List;
+use base::numbers::size;
 use deps::sets::DepSet;
 use keys::columns::Keys;
 use slots::slot::Slot;
@@ -8,7 +9,7 @@ use table::table::Table;
 
 // The first n rows and the key columns are in the list; the other rows are to have nothing.
 pub(crate) fn same_table(list: &mut List, n: u64, table: &Table) -> Option<bool> {
-    let rows = n as usize;
+    let rows = size(n);
     let mut agree = has_nothing_from(rows, table);
     for (row, slots) in table.slots.chunks(32).enumerate().take(rows) {
         let same = same_row(list, n, table.lens[row], table.bars[row], slots)?;
@@ -26,8 +27,8 @@ fn has_nothing_from(first: usize, table: &Table) -> bool {
 
 // Its length and its bar, and then each slot.
 fn same_row(list: &mut List, n: u64, len: usize, bar: usize, slots: &[Slot]) -> Option<bool> {
-    let listed = list.number(32)? as usize;
-    let listed_bar = list.any()? as usize;
+    let listed = size(list.number(32)?);
+    let listed_bar = size(list.any()?);
     let mut agree = len == listed && bar == listed_bar;
     for slot in slots.iter().take(listed) {
         let same = same_slot(list, n, *slot)?;

@@ -28,13 +28,13 @@ returns-then-image-ne-WIDTH c = rw (ne_eqb _ _ c.if-image-ne-WIDTH.true)
 
 pub returns-then-not-is_known : goal.returns-then-not-is_known
 unfolding values_code
-returns-then-not-is_known c = rw (eq-eqb _ _ c.if-image-ne-WIDTH.false, failed c.is_known.ensures c.if-not-is_known.true)
+returns-then-not-is_known c = rw (c.number.ensures, eq-eqb _ _ c.if-image-ne-WIDTH.false, failed c.is_known.ensures c.if-not-is_known.true)
 
 pub returns-then-not-fits : goal.returns-then-not-fits
 unfolding values_code
 returns-then-not-fits c =
     let f = rw c.table_at-table.ensures at (failed c.fits.ensures c.if-not-fits.true) in
-    rw (eq-eqb _ _ c.if-image-ne-WIDTH.false, passed c.is_known.ensures c.if-not-is_known.false, f)
+    rw (c.number-then-not-fits.ensures, eq-eqb _ _ c.if-image-ne-WIDTH.false, passed c.is_known.ensures c.if-not-is_known.false, f)
 
 pub event-requires : goal.event-requires
 event-requires c = (table_fits_each c.table_at-table.result (passed c.fits.ensures c.if-not-fits.false)).config_fits.seven
@@ -45,7 +45,7 @@ returns-in-Err c =
     let t = table_at a.image.now in
     let fits = rw c.table_at-table.ensures at (passed c.fits.ensures c.if-not-fits.false) in
     let told = rw (c.table_at-table.ensures, c.on-cursor.ensures) at c.in-Err.ensures.told in
-    rw (c.number.ensures, ← told)
+    rw (c.number-in-Err.ensures, ← told)
     (unread t a.trace.now (event_in (first_in a.trace.now t)) refl a.times (omega (arith, told, refusal_some c.in-Err.refusal))
     ∙ sym (past a.image.now a.trace.now a.times (eq-eqb _ _ c.if-image-ne-WIDTH.false) (passed c.is_known.ensures c.if-not-is_known.false) fits))
 
