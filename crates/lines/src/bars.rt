@@ -9,7 +9,7 @@ use super::text::Text;
 use table::table::Table;
 
 // Of each row the commit bar and the run bar. Written from a place on; the place after it. Of a table within the bounds, which is
-// asked and no type says: docs/ENTRIES.md names it for any table.
+// asked and no type says: docs/ENTRIES.md names it for any table that is shown to be.
 pub fn put_bars(text: &mut [u8], at: usize, table: Table) -> usize
     requires table_value { table_fits table ≡ true }
     requires table_in_bounds { at + length (bars_text table) ≤ length text.old }

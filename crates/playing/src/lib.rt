@@ -1,6 +1,7 @@
 // A trace read from a file and run, and what came of it printed: reading, running and printing, and nothing is decided here.
 #![tactic(auto)]
 
+ghost use Rattle.std.specs.Prelude.{◌≡◌, IfOk, IfSome};
 ghost use Rattle.std.specs.Io.{ReadsAtMost};
 
 use std::io::Read;
@@ -20,7 +21,9 @@ pub fn open<'a, R: Files + Eprint>(
     rt: &R,
     asker: &str,
     name: &'a [u8],
-) -> io::Result<Option<(&'a str, R::File)>> {
+) -> io::Result<Option<(&'a str, R::File)>>
+    ensures { IfOk result (λ opened. IfSome opened (λ it. it.0.now ≡ name.now)) }
+{
     let Ok(path) = str::from_utf8(name) else {
         eprintln!(rt; "{asker}: the name is not UTF-8")?;
         return Ok(None);

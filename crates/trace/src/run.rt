@@ -30,8 +30,8 @@ pub const DONE: u64 = 100;
 pub const SHORT: u64 = 0;
 
 // DONE, SHORT or the number of the refusal; the table after the last event, or one that every entry refuses; the end of the
-// text. A number, and no Result: `run_of` gives a table and an end beside a refusal too, and names the number by which a
-// program and C know it. The text is lent, since there is no heap: its end stands beside it.
+// text. A number, and no Result: `run_of` gives a table and an end beside a refusal too, and says by what
+// number. The text is lent, since there is no heap: its end stands beside it.
 #[derive(Clone, Copy)]
 pub struct Ran {
     pub number: u64,

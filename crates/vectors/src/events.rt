@@ -1,6 +1,7 @@
 // Events of a run: a tag, which is a trace's, and what the event holds.
 use super::list::List;
 use base::log_status::LogStatus;
+use base::numbers::size;
 use outcomes::message::{Message, Proposal};
 use steps::event::{Event, Tag};
 use table::place::Place;
@@ -35,7 +36,7 @@ impl List<'_> {
     // Peer, row, column, ballot.
     fn message(&mut self) -> Option<Message> {
         Some(Message {
-            peer: self.any()? as usize,
+            peer: size(self.any()?),
             at: self.place()?,
             ballot: self.any()?,
         })
@@ -43,8 +44,8 @@ impl List<'_> {
 
     pub(crate) fn place(&mut self) -> Option<Place> {
         Some(Place {
-            row: self.any()? as usize,
-            col: self.any()? as usize,
+            row: size(self.any()?),
+            col: size(self.any()?),
         })
     }
 }
