@@ -5,7 +5,7 @@ use mathlib.Core.Logic.{◌⊎◌, inl, inr, ⊎_elim}
 use mathlib.Core.Bool.{Bool, true, false, or-true}
 use Prim.Native.Nat.{ℕ, suc, ◌+◌, ◌*◌, ◌/◌, ◌%◌, ◌<◌, ◌≤◌}
 use native.Mathlib.Omega.{arith}
-use borrow.Author.Tests.{lt-ltb, le-leb, ltb-true, ltb-false, leb-true, leb-false, eqb-true, eqb-false}
+use borrow.Author.Tests.{lt-ltb, le-leb, le-ltb, ltb-true, ltb-false, leb-true, leb-false, eqb-true, eqb-false}
 use lib.Dec.{ltb, leb, eqb}
 use lib.ListN.{length, get_or}
 use lib.Seq.{set_out, get_or-set_same}
@@ -95,9 +95,21 @@ room_at_most n row = go (ltb row n) refl
     go true e = rw e (omega arith)
     go false e = rw e (omega arith)
 
+pub no_room : (n row : ℕ) → n ≤ row → room n row ≡ 0
+no_room n row l = rw (le-ltb row n l)
+
 module _ (t : Table) (h : table_fits t ≡ true) where
   pub len_at_most : (row : ℕ) → row < 7 → len_of t row ≤ 32
   len_at_most row l = omega (arith, (table_fits_each t h).lens_fit row l, room_at_most t.config.n row)
+
+  -- a row that holds a slot is one of the population's
+  pub held_row : (row col : ℕ) → row < 7 → col < len_of t row → row < t.config.n
+  held_row row col l held = go (ltb row t.config.n) refl
+    where
+      go : (b : Bool) → ltb row t.config.n ≡ b → row < t.config.n
+      go true e = ltb-true row t.config.n e
+      go false e =
+          absurd (omega (arith, (table_fits_each t h).lens_fit row l, no_room t.config.n row (ltb-false row t.config.n e)))
 
   pub row_below : (row : ℕ) → row < t.config.n → row < 7
   row_below row l = omega (arith, (table_fits_each t h).config_fits.seven)

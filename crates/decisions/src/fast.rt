@@ -65,7 +65,7 @@ fn decided(
     };
     decides(
         identical.first,
-        entries,
+        &entries,
         |words| Decision::Committed(words),
         otherwise,
     )

@@ -37,6 +37,8 @@ fn put_slots(out: &mut [u8], at: usize, slots: &[Slot; 224])
     }
 }
 
+// Out of line: compiled into a caller, its room on the stack would be held beside that of the attempt that the caller makes.
+#[inline(never)]
 pub fn table_at(image: &[u8]) -> Table
     requires { length image.now ≡ image_width }
     ensures { result ≡ table_at image.now }

@@ -1,6 +1,7 @@
 -- The next event of a trace, the place after it and what is left there.
-use Rattle.std.specs.Prelude.{List, ℕ}
+use Rattle.std.specs.Prelude.{◌≡◌, List, ℕ}
 use Rattle.steps.specs.declared.event.Event.{Event}
+use Rattle.groups.specs.Told.{Tells}
 use Rattle.reading.specs.Events.{EventRead}
 use Rattle.reader.specs.Reader.{event_at, place_after, rest_from}
 use Rattle.reader.specs.declared.next.Next as Held
@@ -27,6 +28,8 @@ next_read s x = ended_at s x (place_after s x.cursor)
 unfoldable pub next_at : ℕ → List ℕ → ℕ → Next
 next_at n s at = next_read s (event_at n s at)
 
--- where nothing was refused
-abbrev pub went_by : Next → Held.Next
-went_by x = record { event = x.event; at = x.at; rest = x.rest }
+-- a `Next` of the code: the event or the refusal, and of either the place and what is left
+pub record NextTold (told : Held.Next) (x : Next) : Type 0 where
+  pub event : Tells told.event x.event x.refusal
+  pub at : told.at ≡ x.at
+  pub rest : told.rest ≡ x.rest

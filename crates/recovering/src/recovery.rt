@@ -54,7 +54,7 @@ pub fn choice(
 {
     let named = named(config.n, prepare.row, acks, votes.voted);
     match refusal::refusal(config, named, votes.voted, votes.entries) {
-        Ok(()) => chosen(rule.counts(config), config, prepare, acks, votes),
+        Ok(()) => chosen(rule.counts(config), config, prepare, acks, &votes),
         Err(refusal) => Decision::Refused {
             number: refusal.number(),
         },
@@ -74,14 +74,14 @@ fn chosen(
     config: Config,
     prepare: Prepare,
     acks: [bool; 7],
-    votes: Votes,
+    votes: &Votes,
 ) -> Decision
-    ensures { result ≡ choice_by counts config prepare acks votes.voted votes.statuses votes.entries }
+    ensures { result ≡ choice_by counts config prepare acks votes.now.voted votes.now.statuses votes.now.entries }
 {
     if marks::count(acks) < config.simple {
         return Decision::Wait;
     }
-    let entries = votes.entries;
+    let entries = &votes.entries;
     let over = decides(
         votes.highest(Status::PreAccepting),
         entries,

@@ -21,7 +21,9 @@ pub fn committed(table: Table, at: Place, order: &mut [u8]) -> Ran
     ensures result { result ≡ ran_from 0 (on_committed table at) }
     ensures list { order.new ≡ sets order.old 0 (on_committed table at).wrote }
 {
-    let bar = table.bars[at.row];
+    // taken out first: an index into a table that is passed by value copies all of it
+    let bars = table.bars;
+    let bar = bars[at.row];
     if at.col != bar {
         return Ran { table, end: 0 };
     }

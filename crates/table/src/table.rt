@@ -84,7 +84,9 @@ impl Table {
         requires col_bound { at.col < 32 }
         ensures { result ≡ nulls_to self at }
     {
-        let len = self.lens[at.row];
+        // taken out first: an index into a table that is passed by value copies all of it
+        let lens = self.lens;
+        let len = lens[at.row];
         if at.col < len {
             return self;
         }

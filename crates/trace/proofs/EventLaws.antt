@@ -24,11 +24,12 @@ module _ (s : List ℕ) (run : Run) (r : Next) (e : r ≡ next_by s run) where
 
   -- ---- an event that cannot be read
 
-  pub turn_stopped : 0 < r.refusal → (x : Run) → x ≡ stopped_run (length s) run r.refusal → x ≡ turn_of s run
-  unfolding turn_of
+  pub turn_stopped : 0 < r.refusal → (x : Run) → x ≡ stopped_run r.at run r.refusal → x ≡ turn_of s run
+  unfolding turn_of next_at
   turn_stopped h x f =
       let n = ne_eqb (found_by s run).cursor.refusal 0 (λ z. omega (arith, found_refusal)) in
-      rw (n, found_refusal) f
+      let at-end : r.at ≡ length s = rw (e, n) in
+      rw (n, found_refusal, ← at-end) f
 
   pub text_stopped : 0 < r.refusal → refusal_text run r.refusal ≡ turn_text s run
   unfolding turn_text

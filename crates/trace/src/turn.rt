@@ -31,12 +31,13 @@ pub(crate) fn turn(trace: &[u8], run: Run, text: &mut [u8]) -> Run
     ensures result { result ≡ turn_of trace.now run }
     ensures list { text.new ≡ sets text.old run.end (turn_text trace.now run) }
 {
-    let next = match next_at(trace, run.at, run.table.config.n) {
-        Ok(next) => next,
-        Err(refusal) => return stop(run, trace.len(), refusal, text),
+    let next = next_at(trace, run.at, run.table.config.n);
+    let event = match next.event {
+        Ok(event) => event,
+        Err(refusal) => return stop(run, next.at, refusal, text),
     };
     let mut order = [0u8; 224];
-    let did = step(run.table, next.event, &mut order);
+    let did = step(run.table, event, &mut order);
     let outcome = did.outcome;
     let events = run.events + 1;
     let ran = &order[..did.ran];

@@ -10,7 +10,7 @@ use Rattle.recovering.proofs.recovery.chosen.Goals as goal
 pub returns-then-count-config : goal.returns-then-count-config
 returns-then-count-config c =
     let a = c.args in
-    sym (choice_few a.counts a.config a.prepare a.acks a.votes.voted a.votes.statuses a.votes.entries (omega (arith, c.count.ensures)))
+    sym (choice_few a.counts a.config a.prepare a.acks a.votes.now.voted a.votes.now.statuses a.votes.now.entries (omega (arith, c.count.ensures)))
 
 pub decides-over-requires-clause-inside : goal.decides-over-requires-clause-inside
 decides-over-requires-clause-inside c = rw c.highest.ensures (vote_inside status.PreAccepting _ _)
@@ -31,4 +31,4 @@ returns c =
     let grouped = c.decides-grouped.ensures decision.Accepting (λ w d p. search rules) in
     let accepting = c.decides-accepting.ensures decision.Accepting (λ w d p. search rules) in
     c.decides.ensures decision.Committed (λ w d p. search rules)
-    ∙ rw (accepting, grouped, over, c.highest.ensures, c.group.ensures, c.highest-2.ensures, c.highest-3.ensures) (sym (choice_open a.counts a.config a.prepare a.acks a.votes.voted a.votes.statuses a.votes.entries (omega (arith, c.count.ensures))))
+    ∙ rw (accepting, grouped, over, c.highest.ensures, c.group.ensures, c.highest-2.ensures, c.highest-3.ensures) (sym (choice_open a.counts a.config a.prepare a.acks a.votes.now.voted a.votes.now.statuses a.votes.now.entries (omega (arith, c.count.ensures))))

@@ -9,17 +9,18 @@ use Rattle.trace.proofs.GoingLaws.{turn_room}
 use Rattle.trace.proofs.EventLaws.{turn_stopped, text_stopped, ran_fits, text_went, turn_went}
 use Rattle.trace.proofs.turn.turn.Goals as goal
 
-pub next_at-requires : goal.next_at-requires
-next_at-requires c = (table_fits_each c.args.run.table c.requires.table_value).config_fits.seven
+pub next_at-next-requires : goal.next_at-next-requires
+next_at-next-requires c = (table_fits_each c.args.run.table c.requires.table_value).config_fits.seven
 
 pub returns-in-Err : goal.returns-in-Err
 returns-in-Err c =
     let s = c.args.trace.now in
     let run = c.args.run in
     let r = next_by s run in
-    let e = c.in-Err.ensures in
+    let t = c.next_at-next.ensures in
+    let e = rw c.in-Err.is at t.event in
     let h : 0 < r.refusal = omega (arith, e, refusal_some c.in-Err.refusal) in
-    let x = rw (← e) at c.stop.ensures in
+    let x = rw (← e, t.at) at c.stop.ensures in
     record {
       result = turn_stopped s run r refl h c.stop.result x.result;
       list = rw (text_stopped s run r refl h) at x.list;
@@ -28,7 +29,7 @@ returns-in-Err c =
 pub slice_bounds-order-end : goal.slice_bounds-order-end
 slice_bounds-order-end c =
     let s = c.args.trace.now in
-    let n = c.in-Ok.ensures in
+    let n = rw c.in-Ok.is at c.next_at-next.ensures.event in
     let d = c.step-did in
     let did = rw n.0 at d.ensures in
     ran_fits s c.args.run (next_by s c.args.run) refl d.result d.new.order did.result did.list
@@ -36,7 +37,7 @@ slice_bounds-order-end c =
 pub slice_bounds-ran-end : goal.slice_bounds-ran-end
 slice_bounds-ran-end c =
     let s = c.args.trace.now in
-    let n = c.in-Ok.ensures in
+    let n = rw c.in-Ok.is at c.next_at-next.ensures.event in
     let d = c.step-did in
     let did = rw n.0 at d.ensures in
     let fits = ran_fits s c.args.run (next_by s c.args.run) refl d.result d.new.order did.result did.list in
@@ -45,7 +46,7 @@ slice_bounds-ran-end c =
 pub put_line-end-requires : goal.put_line-end-requires
 put_line-end-requires c =
     let s = c.args.trace.now in
-    let n = c.in-Ok.ensures in
+    let n = rw c.in-Ok.is at c.next_at-next.ensures.event in
     let d = c.step-did in
     let did = rw n.0 at d.ensures in
     let t = text_went s c.args.run (next_by s c.args.run) refl d.result d.new.order did.result did.list n.1 in
@@ -55,11 +56,12 @@ pub returns : goal.returns
 returns c =
     let s = c.args.trace.now in
     let run = c.args.run in
-    let n = c.in-Ok.ensures in
+    let told = c.next_at-next.ensures in
+    let n = rw c.in-Ok.is at told.event in
     let d = c.step-did in
     let did = rw n.0 at d.ensures in
     let p = c.put_line-end in
     record {
-      result = rw n.0 (turn_went s run (next_by s run) refl d.result d.new.order did.result did.list n.1 p.result p.ensures.value);
+      result = rw (told.at, told.rest) (turn_went s run (next_by s run) refl d.result d.new.order did.result did.list n.1 p.result p.ensures.value);
       list = rw (text_went s run (next_by s run) refl d.result d.new.order did.result did.list n.1) at p.ensures.text_after;
     }
