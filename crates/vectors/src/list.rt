@@ -34,18 +34,20 @@ impl<'a> List<'a> {
         self.rest.is_empty()
     }
 
-    // The next number, if it is no more than its reader has room for.
+    // The next number, if it is no more than its reader has room for. A list is long, so it is gone over once.
     pub(crate) fn number(&mut self, most: u64) -> Option<u64>
         ensures { IfSome result (λ value. value ≤ most) }
     {
         let rest = self.rest;
-        let end = rest.iter().position(|&byte| byte == b' ' || byte == b'\n')?;
-        let value = value_of(&rest[..end])?;
-        if most < value {
-            return None;
+        let mut read = None;
+        for (at, &byte) in rest.iter().enumerate() {
+            if byte == b' ' || byte == b'\n' {
+                self.rest = &rest[at + 1..];
+                return read.filter(|&value| value <= most);
+            }
+            read = Some(with_digit(read.unwrap_or(0), byte)?);
         }
-        self.rest = &rest[end + 1..];
-        Some(value)
+        None
     }
 
     // The next number, whatever it is.
@@ -59,10 +61,8 @@ impl<'a> List<'a> {
     }
 }
 
-// The value of digits, if there are any and it has no more than 64 bits. A plus before them, which parse takes, is no digit.
-fn value_of(digits: &[u8]) -> Option<u64> {
-    if digits.starts_with(b"+") {
-        return None;
-    }
-    str::from_utf8(digits).ok()?.parse().ok()
+// A number with one digit more. Nothing where the byte is no digit, or where the number would have more than 64 bits.
+fn with_digit(value: u64, byte: u8) -> Option<u64> {
+    let digit = byte.checked_sub(b'0').filter(|&digit| digit <= 9)?;
+    value.checked_mul(10)?.checked_add(u64::from(digit))
 }
